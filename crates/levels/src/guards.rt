@@ -1,0 +1,46 @@
+// Guards over lent work memory: the end of a guard writes zeros over the whole slice, on every
+// way out of the call that made it.
+ghost use mathlib.Core.Path.{_≡_};
+ghost use Rattle.levels.specs.Work.{Cleared};
+
+// A place for an element, as a plain number.
+pub type Place = u16;
+
+// A position in a vector. It is wider than a place, so that the compiler tells the two apart.
+pub type Position = u32;
+
+// The work memory for bytes.
+pub struct BytesGuard<'a>(pub &'a mut [u8]);
+
+impl Drop for BytesGuard<'_> {
+    fn drop(self)
+        ensures { λ _. ⌜ Cleared (now (self .entry .0)) (now (self .exit .0)) ⌝ }
+    {
+        self.0.fill(0);
+        let BytesGuard(_) = self;
+    }
+}
+
+// The work memory for elements.
+pub struct PlacesGuard<'a>(pub &'a mut [Place]);
+
+impl Drop for PlacesGuard<'_> {
+    fn drop(self)
+        ensures { λ _. ⌜ Cleared (now (self .entry .0)) (now (self .exit .0)) ⌝ }
+    {
+        self.0.fill(0);
+        let PlacesGuard(_) = self;
+    }
+}
+
+// The work memory for positions.
+pub struct PositionsGuard<'a>(pub &'a mut [Position]);
+
+impl Drop for PositionsGuard<'_> {
+    fn drop(self)
+        ensures { λ _. ⌜ Cleared (now (self .entry .0)) (now (self .exit .0)) ⌝ }
+    {
+        self.0.fill(0);
+        let PositionsGuard(_) = self;
+    }
+}
