@@ -1,0 +1,4 @@
+pub mod Tried
+pub mod Sums
+pub mod Places
+pub mod Packing
