@@ -2,3 +2,4 @@ pub mod Names
 pub mod Table
 pub mod Faults
 pub mod Work
+pub mod Rows

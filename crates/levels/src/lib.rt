@@ -4,6 +4,7 @@ ghost use mathlib.Core.Path.{_≡_};
 ghost use Rattle.levels.specs.Names.{levelOf};
 ghost use Rattle.levels.specs.Table.{sizesOf, Lawful};
 
+pub mod checks;
 pub mod faults;
 pub mod guards;
 
