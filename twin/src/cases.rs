@@ -1,5 +1,11 @@
 //! The outside vectors of `data/`, as far as sealing goes. Another implementation
 //! made them; what they expect are facts.
+//!
+//! | file | what is read of it |
+//! |---|---|
+//! | `sample_keys.json`, `level_keys.json` | the tickets that have a seed, with their hash and key; the public key (`pk`) at the sample level |
+//! | `refusals.json` | the calls of seal: buffers before the call, work memory (`work`), `capacity`, and the fault they answer, or null |
+//! | `shuffle.json` | length and seed, and the order of the shuffled numbers, or its SHA-256 |
 
 use crate::fault::{Fault, Layer, Part};
 use crate::hash::{Hash, Kind, CAPACITY};

@@ -13,22 +13,8 @@ use twin::shuffle::{error_vector, order, perm, perm_inv, shuffle};
 
 /// Names that are close to a level's, and none of them.
 const NO_LEVELS: [&[u8]; 16] = [
-    b"",
-    b"0",
-    b"160",
-    b"384",
-    b"12",
-    b"1280",
-    b"0128",
-    b"128 ",
-    b" 192",
-    b"256\n",
-    b"Sample",
-    b"sampl",
-    b"samples",
-    b"sample\0",
-    b"\xff",
-    b"sample\xc3\x28",
+    b"", b"0", b"160", b"384", b"12", b"1280", b"0128", b"128 ", b" 192", b"256\n", b"Sample",
+    b"sampl", b"samples", b"sample\0", b"\xff", b"sample\xc3\x28",
 ];
 
 /// Lengths at and beside the ends of the blocks of 72 and of 128 bytes, and of the
