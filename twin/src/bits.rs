@@ -1,0 +1,69 @@
+//! Bit vectors packed in bytes: bit j lies in byte j div 8 with the weight
+//! 2^(7 - j mod 8).
+
+/// Bit j of a packed vector.
+pub fn bit(vector: &[u8], j: usize) -> bool {
+    vector[j / 8] & weight(j) != 0
+}
+
+/// Changes bit j of a packed vector.
+pub fn flip(vector: &mut [u8], j: usize) {
+    vector[j / 8] ^= weight(j);
+}
+
+/// How many bits of a packed vector are ones.
+pub fn ones(vector: &[u8]) -> u32 {
+    vector.iter().map(|byte| byte.count_ones()).sum()
+}
+
+fn weight(j: usize) -> u8 {
+    0x80 >> (j % 8)
+}
+
+/// The same bits in 64-bit words, the last one filled up with zeros. Words of
+/// two vectors fit each other; a bit's place within its word is of no account.
+pub fn words(vector: &[u8]) -> Vec<u64> {
+    vector.chunks(8).map(word).collect()
+}
+
+/// The inner product, modulo 2, of a packed row with a vector in words.
+pub fn inner_product(row: &[u8], vector: &[u64]) -> bool {
+    let whole = row.chunks_exact(8);
+    let rest = word(whole.remainder());
+    let tail = vector.get(row.len() / 8).map_or(0, |last| rest & last);
+    let sum = whole.zip(vector).fold(tail, |sum, (chunk, other)| sum ^ (word(chunk) & other));
+    sum.count_ones() % 2 == 1
+}
+
+fn word(chunk: &[u8]) -> u64 {
+    let mut bytes = [0; 8];
+    bytes[..chunk.len()].copy_from_slice(chunk);
+    u64::from_ne_bytes(bytes)
+}
+
+#[cfg(test)]
+mod tests {
+    use super::*;
+    use crate::random::Random;
+
+    #[test]
+    fn first_bit_is_the_highest() {
+        let mut vector = [0; 2];
+        for j in [0, 7, 9] {
+            flip(&mut vector, j);
+        }
+        assert_eq!(vector, [0x81, 0x40]);
+        assert_eq!(ones(&vector), 3);
+        assert!(bit(&vector, 9) && !bit(&vector, 8));
+    }
+
+    #[test]
+    fn words_multiply_like_bits() {
+        let mut random = Random::new(1);
+        for length in 0..40 {
+            let (row, vector) = (random.bytes(length), random.bytes(length));
+            let ones = (0..8 * length).filter(|&j| bit(&row, j) && bit(&vector, j)).count();
+            assert_eq!(inner_product(&row, &words(&vector)), ones % 2 == 1, "{length} bytes");
+        }
+    }
+}

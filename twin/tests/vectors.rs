@@ -1,0 +1,88 @@
+//! The outside vectors, run by the twin and by the product.
+
+mod common;
+
+use common::{product, seal_by_both};
+use twin::bits::ones;
+use twin::cases::{sealed, seals, shuffles, Sealed};
+use twin::hash::{Hash, Kind};
+use twin::random::Random;
+use twin::seal::Order;
+use twin::shuffle;
+
+#[test]
+fn tickets_of_the_sample_level() {
+    let mut random = Random::new(101);
+    let cases: Vec<Sealed> =
+        sealed().into_iter().filter(|case| case.public_key.is_some()).collect();
+    assert_eq!(cases.len(), 18);
+    for case in cases {
+        let order = Order {
+            level: case.level.name.as_bytes(),
+            public_key: case.public_key.as_deref().expect("filtered"),
+            ticket_seed: &case.seed,
+            hash: Hash::full(case.kind),
+            room: case.level.room,
+        };
+        let mut ticket = random.bytes(case.level.ticket());
+        let mut key = random.bytes(32);
+        assert_eq!(seal_by_both(&order, &mut ticket, &mut key, &mut random), Ok(()));
+        assert_eq!((ticket, key), (case.ticket, case.key));
+    }
+}
+
+/// Head and key need no public key, so the large levels' tickets can be followed
+/// but for their bodies.
+#[test]
+fn heads_and_keys_of_every_level() {
+    let cases = sealed();
+    assert_eq!(cases.len(), 24);
+    for case in cases {
+        let vector = error_vector_by_product(&case);
+        assert_eq!(ones(&vector) as usize, case.level.t);
+        assert_eq!(vector, shuffle::error_vector(case.level.n, case.level.t, &case.seed));
+        let (head, body) = case.ticket.split_at(32);
+        assert_eq!(hash_by_product(case.kind, &[b"PALOMAGG", &vector]), head);
+        assert_eq!(hash_by_product(case.kind, &[b"PALOMAHH", &vector, head, body]), case.key[..]);
+    }
+}
+
+fn error_vector_by_product(case: &Sealed) -> Vec<u8> {
+    let mut out = vec![0; case.level.vector()];
+    let mut positions = vec![0; case.level.n];
+    let level = case.level.name.as_bytes();
+    assert_eq!(product::error_vector(level, &case.seed, &mut out, &mut positions), 0);
+    out
+}
+
+fn hash_by_product(kind: Kind, parts: &[&[u8]]) -> [u8; 32] {
+    let mut out = [0; 32];
+    assert_eq!(product::hash(Hash::full(kind), &parts.concat(), &mut out), 0);
+    out
+}
+
+#[test]
+fn answers_of_seals() {
+    let mut random = Random::new(102);
+    let calls = seals();
+    assert_eq!(calls.len(), 5);
+    for call in calls {
+        for kind in Kind::BOTH {
+            let (mut ticket, mut key) = (call.ticket.clone(), call.key.clone());
+            let answer = seal_by_both(&call.order(kind), &mut ticket, &mut key, &mut random);
+            assert_eq!(answer, call.answer, "{}", call.note);
+        }
+    }
+}
+
+#[test]
+fn shuffled_lists() {
+    let cases = shuffles();
+    assert_eq!(cases.len(), 12);
+    for case in cases {
+        let mut items: Vec<u32> = (0..).take(case.n).collect();
+        assert_eq!(product::shuffle(&case.seed, &mut items), 0);
+        assert!(case.order.is(&items), "the product, length {}", case.n);
+        assert!(case.order.is(&shuffle::order(case.n, &case.seed)), "the twin, length {}", case.n);
+    }
+}
