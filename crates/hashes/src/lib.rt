@@ -49,3 +49,16 @@ pub trait Hash: Copy {
     fn capacity(&self) -> usize
         ensures { λ r. ⌜ r ≡ capacity (now (self .entry)) ⌝ };
 }
+
+// Takes bytes that are known to be no more than are left.
+pub fn take_all<H: Hash>(hash: &mut H, bytes: &[u8])
+    requires { ⌜ length (now bytes) ≤ H·Hash .left (now hash) ⌝ }
+    ensures spent { λ _. ⌜ H·Hash .left (now (hash .exit)) ≡ H·Hash .left (now (hash .entry)) - length (now (bytes .entry)) ⌝ }
+    ensures joined { λ _. ⌜ H·Hash .outcome (now (hash .exit)) ≡ (λ xs. H·Hash .outcome (now (hash .entry)) (now (bytes .entry) ++ xs)) ⌝ }
+    ensures same { λ _. ⌜ H·Hash .rule (now (hash .exit)) ≡ H·Hash .rule (now (hash .entry)) ⌝ }
+    ensures kept { λ _. ⌜ H·Hash .capacity (now (hash .exit)) ≡ H·Hash .capacity (now (hash .entry)) ⌝ }
+{
+    let Ok(()) = hash.take(bytes) else {
+        return;
+    };
+}

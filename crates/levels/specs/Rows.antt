@@ -23,6 +23,13 @@ abbrev pub firstOf : {X : Type 0} → List Row → X → Result X Fault
 firstOf [] x = Ok x
 firstOf (r ∷ rows) x = cond (r .applies) (Err (r .fault)) (firstOf rows x)
 
+-- the answer of tests that give nothing but acceptance
+abbrev pub answer : List Row → Result (Unit {0}) Fault
+answer rows = firstOf rows tt
+
+abbrev pub pass : Result (Unit {0}) Fault
+pass = Ok tt
+
 -- a buffer has not the length that it should have
 abbrev pub lengthRow : ℕ → ℕ → ℕ → Row
 lengthRow buffer is should = row (not (eqb is should)) (WrongLength buffer)

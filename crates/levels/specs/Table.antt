@@ -1,6 +1,6 @@
 -- The table of the levels.
 use mathlib.Core.Path.{_≡_}
-use Prim.Native.Nat.{ℕ, _+_, _*_, _^_, _≤_}
+use Prim.Native.Nat.{ℕ, _+_, _-_, _*_, _^_, _<_, _≤_}
 use Rattle.levels.specs.declared.Level.{Level}
 use Rattle.levels.specs.declared.Level.the-variants.{Sample, Level128, Level192, Level256}
 use Rattle.levels.specs.declared.Sizes.{Sizes}
@@ -25,9 +25,10 @@ pub record Lawful (s : Sizes) : Type 0 where
   pub shorter : s .body ≤ s .vector
   pub code : s .n + s .t ≤ 2 ^ s .m
   pub weight : s .t ≤ s .n
-  pub matrix : 8 * s .«public_key» ≡ s .rows * s .k
+  pub matrix : s .«public_key» ≡ s .rows * (s .vector - s .body)
   pub secret : s .«secret_key» ≡ 2 * s .n + 2 * s .t + s .rows * s .body + 64
   pub ticket : s .ticket ≡ 32 + s .body
   pub capacity : s .capacity ≡ 40 + s .vector + s .body
   pub places : s .n ≤ s .«work_places»
-  pub bytes : s .vector ≤ s .«work_bytes»
+  pub bytes : 2 * s .vector + s .body ≤ s .«work_bytes»
+  pub small : s .n < 2 ^ 16

@@ -1,8 +1,7 @@
 // The tests that several calls share.
 ghost use mathlib.Core.Path.{_≡_};
 ghost use mathlib.Core.List.{[], _∷_};
-ghost use Rattle.levels.specs.Rows.{firstOf, lengthRow, workRows, capacityRow};
-
+ghost use Rattle.levels.specs.Rows.{answer, workRows, capacityRow};
 use crate::Sizes;
 use crate::faults::Fault;
 
@@ -14,19 +13,9 @@ pub struct WorkLengths {
     pub positions: usize,
 }
 
-// A buffer has exactly its length.
-pub fn check_length(buffer: usize, is: usize, should: usize) -> Result<(), Fault>
-    ensures { λ r. ⌜ r ≡ firstOf (lengthRow buffer is should ∷ []) tt ⌝ }
-{
-    if is != should {
-        return Err(Fault::WrongLength(buffer));
-    }
-    Ok(())
-}
-
 // Each work slice has at least the level's length.
 pub fn check_work(sizes: &Sizes, work: WorkLengths) -> Result<(), Fault>
-    ensures { λ r. ⌜ r ≡ firstOf (workRows (now (sizes .entry)) work) tt ⌝ }
+    ensures { λ r. ⌜ r ≡ answer (workRows (now (sizes .entry)) work) ⌝ }
 {
     if work.bytes < sizes.work_bytes {
         return Err(Fault::ShortWork(0));
@@ -42,7 +31,7 @@ pub fn check_work(sizes: &Sizes, work: WorkLengths) -> Result<(), Fault>
 
 // The hash takes as much as the level needs.
 pub fn check_capacity(sizes: &Sizes, capacity: usize) -> Result<(), Fault>
-    ensures { λ r. ⌜ r ≡ firstOf (capacityRow (now (sizes .entry)) capacity ∷ []) tt ⌝ }
+    ensures { λ r. ⌜ r ≡ answer (capacityRow (now (sizes .entry)) capacity ∷ []) ⌝ }
 {
     if capacity < sizes.capacity {
         return Err(Fault::SmallCapacity);
