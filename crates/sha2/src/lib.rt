@@ -1,0 +1,3 @@
+// The first 32 bytes of SHA-512 as a hash.
+mod compression;
+mod functions;
