@@ -140,3 +140,7 @@ sha2Rule m = take 32 (sha512 m)
 -- the last whole block stand at the front of the block, and xs are still to come
 unfoldable pub goesOn : List ℕ → List ℕ → ℕ → List ℕ → List ℕ
 goesOn h block taken xs = digest (absorb h (take (taken % 128) block ++ xs ++ padding (taken + length xs)))
+
+-- byte i of the words of a chaining value
+abbrev pub byteAt : List ℕ → ℕ → ℕ
+byteAt h i = getD (bytesOf 8 (getD h (i / 8) 0)) (i % 8) 0
