@@ -48,9 +48,9 @@ pad-one m last used taken k u h n e =
     let z : 127 - used ≡ k + (127 - used - k) = omega arith in
     let p : k ≡ (239 - taken % 128) % 128 = omega arith in
     let split : last ≡ (m ++ 128 ∷ replicate k 0) ++ replicate (127 - used - k) 0 =
-        e ∙ ap (λ x. m ++ 128 ∷ replicate x 0) z
-        ∙ ap (λ x. m ++ 128 ∷ x) (sym (replicate-append-replicate k (127 - used - k) 0))
-        ∙ sym (append-assoc m (128 ∷ replicate k 0) (replicate (127 - used - k) 0)) in
+    e ∙ ap (λ x. m ++ 128 ∷ replicate x 0) z
+    ∙ ap (λ x. m ++ 128 ∷ x) (sym (replicate-append-replicate k (127 - used - k) 0))
+    ∙ sym (append-assoc m (128 ∷ replicate k 0) (replicate (127 - used - k) 0)) in
     let l : length (m ++ 128 ∷ replicate k 0) ≡ 112 = simp (length-append, length-replicate) (omega arith) in
     ap (λ x. x ++ bytesOf 16 (8 * taken)) (ap (take 112) split ∙ take-at (m ++ 128 ∷ replicate k 0) (replicate (127 - used - k) 0) 112 l)
     ∙ append-assoc m (128 ∷ replicate k 0) (bytesOf 16 (8 * taken))
@@ -76,11 +76,12 @@ pub byte-at : (xs : List ℕ) (i : ℕ) → i < 8 * length xs → getD (digest x
 unfolding digest
 byte-at [] i h = absurd (omega arith)
 byte-at (x ∷ xs) i h = elim (cases i) [
-      inl l ↦ let q : 0 ≡ i / 8 = omega arith in let r : i ≡ i % 8 = omega arith in
-        getD-append-left (bytesOf 8 x) (digest xs) 0 i (omega (arith, length-8 x)) ∙ ap₂ (λ y z. getD (bytesOf 8 (getD (x ∷ xs) y 0)) z 0) q r
-    | inr l ↦ let q : suc ((i - 8) / 8) ≡ i / 8 = omega arith in let r : (i - 8) % 8 ≡ i % 8 = omega arith in
-        getD-append-right (bytesOf 8 x) (digest xs) 8 i 0 (length-8 x) l ∙ byte-at xs (i - 8) (omega arith)
-        ∙ ap₂ (λ y z. getD (bytesOf 8 (getD (x ∷ xs) y 0)) z 0) q r ]
+  | inl l ↦ let q : 0 ≡ i / 8 = omega arith in let r : i ≡ i % 8 = omega arith in
+      getD-append-left (bytesOf 8 x) (digest xs) 0 i (omega (arith, length-8 x)) ∙ ap₂ (λ y z. getD (bytesOf 8 (getD (x ∷ xs) y 0)) z 0) q r
+  | inr l ↦ let q : suc ((i - 8) / 8) ≡ i / 8 = omega arith in let r : (i - 8) % 8 ≡ i % 8 = omega arith in
+      getD-append-right (bytesOf 8 x) (digest xs) 8 i 0 (length-8 x) l ∙ byte-at xs (i - 8) (omega arith)
+      ∙ ap₂ (λ y z. getD (bytesOf 8 (getD (x ∷ xs) y 0)) z 0) q r
+]
   where
     cases : (k : ℕ) → (k < 8) ⊎ (8 ≤ k)
     cases k = search arith

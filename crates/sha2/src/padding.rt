@@ -4,7 +4,6 @@ ghost use mathlib.Core.List.{_∷_, _++_};
 ghost use Prim.Native.Nat.{_-_, _*_, _%_, _<_};
 ghost use lib.ListN.{take, replicate};
 ghost use Rattle.sha2.specs.Sha512.{bytesOf, padding, absorb, digest, byteAt};
-
 use crate::compression::compress_block;
 
 // The bytes of a block that are in use, a bit 1, and bits 0 to the end of the block.

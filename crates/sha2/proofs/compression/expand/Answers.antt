@@ -13,10 +13,11 @@ unfolding schedule
 loop-t-holds c = (omega arith, refl)
 
 pub loop-t-again : need.loop-t-again
-loop-t-again c =
-    (length-set (c .loop-t .w) (c .loop-t .t) (c .next-word .result) ∙ c .loop-t .inv .0,
-     ap (λ x. take (c .loop-t .t + 1) (set (c .loop-t .w) (c .loop-t .t) x)) (c .next-word .ensures)
-     ∙ schedule-more (take 16 (c .args .w .now)) (c .loop-t .w) (c .loop-t .t) (omega arith) (omega arith) (c .loop-t .inv .1))
+loop-t-again c = (
+  length-set (c .loop-t .w) (c .loop-t .t) (c .next-word .result) ∙ c .loop-t .inv .0,
+  ap (λ x. take (c .loop-t .t + 1) (set (c .loop-t .w) (c .loop-t .t) x)) (c .next-word .ensures)
+      ∙ schedule-more (take 16 (c .args .w .now)) (c .loop-t .w) (c .loop-t .t) (omega arith) (omega arith) (c .loop-t .inv .1),
+)
 
 pub returns : need.returns
 returns c =

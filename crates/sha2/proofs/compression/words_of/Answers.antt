@@ -12,10 +12,11 @@ use Rattle.sha2.proofs.compression.words_of.Needs as need
 pub loop-i-again : need.loop-i-again
 loop-i-again c =
     let f : ℕ → ℕ = λ k. bigEndian (take 8 (drop (8 * k) (c .args .block .now))) in
-    let P : List ℕ → Type 0 = λ xs. (k : ℕ) → k < c .loop-i .i + 1 → getD xs k 0 ≡ f k in
-    (length-set (c .loop-i .w) (c .loop-i .i) (c .word-of .result) ∙ c .loop-i .inv .0,
-     subst P (ap (set (c .loop-i .w) (c .loop-i .i)) (sym (c .word-of .ensures)))
-       (fill-by-more f (c .loop-i .w) (c .loop-i .i) 0 (omega arith) (c .loop-i .inv .1)))
+    let P : List ℕ → Type 0 = λ xs. (k : ℕ) → k < c .loop-i .i + 1 → getD xs k 0 ≡ f k in (
+      length-set (c .loop-i .w) (c .loop-i .i) (c .word-of .result) ∙ c .loop-i .inv .0,
+      subst P (ap (set (c .loop-i .w) (c .loop-i .i)) (sym (c .word-of .ensures)))
+          (fill-by-more f (c .loop-i .w) (c .loop-i .i) 0 (omega arith) (c .loop-i .inv .1)),
+    )
 
 pub returns : need.returns
 returns c = words-all (c .args .block .now) (c .loop-i .w) (omega arith) (λ k h. c .loop-i .inv .1 k (omega arith))

@@ -13,8 +13,8 @@ returns-then-used-lt112 c =
     c .compress-block .ensures
     ∙ sym (absorb-one (c .args .h .now) (c .put-length .last .block) (c .put-length .array-long))
     ∙ ap (absorb (c .args .h .now)) (c .put-length .ensures
-        ∙ pad-one (take (c .args .taken % 128) (c .args .block .now)) (c .closed-last .result) (c .args .taken % 128) (c .args .taken) (111 - c .args .taken % 128)
-          refl (omega arith) (length-take-le (c .args .taken % 128) (c .args .block .now) (omega arith)) (c .closed-last .ensures))
+    ∙ pad-one (take (c .args .taken % 128) (c .args .block .now)) (c .closed-last .result) (c .args .taken % 128) (c .args .taken) (111 - c .args .taken % 128)
+    refl (omega arith) (length-take-le (c .args .taken % 128) (c .args .block .now) (omega arith)) (c .closed-last .ensures))
 
 pub returns-else-used-lt112 : need.returns-else-used-lt112
 returns-else-used-lt112 c =
@@ -23,5 +23,5 @@ returns-else-used-lt112 c =
     ∙ ap (λ (x : List ℕ). absorb x (c .put-length-else-used-lt112 .last .block)) (c .compress-block-else-used-lt112 .ensures)
     ∙ sym (absorb-block (c .args .h .now) (c .closed-last .result) (c .put-length-else-used-lt112 .last .block) (omega arith))
     ∙ ap (absorb (c .args .h .now)) (ap (λ (x : List ℕ). c .closed-last .result ++ x) (c .put-length-else-used-lt112 .ensures)
-        ∙ pad-two (take (c .args .taken % 128) (c .args .block .now)) (c .closed-last .result) (take 112 (replicate 128 0)) (c .args .taken % 128) (c .args .taken) 112
-          refl (c .if-used-lt112 .left) (c .closed-last .ensures) refl (take-replicate 112 128 0 (omega arith)))
+    ∙ pad-two (take (c .args .taken % 128) (c .args .block .now)) (c .closed-last .result) (take 112 (replicate 128 0)) (c .args .taken % 128) (c .args .taken) 112
+    refl (c .if-used-lt112 .left) (c .closed-last .ensures) refl (take-replicate 112 128 0 (omega arith)))

@@ -22,4 +22,4 @@ returns c =
     close (take (c .args .used) (c .args .block .now)) (c .loop-i .last) (c .args .used) (omega arith)
     (length-take-le (c .args .used) (c .args .block .now) (omega arith))
     (c .loop-i .inv ∙ ap₂ (λ (x y : ℕ). take x (c .args .block .now) ++ drop y (replicate 128 0)) e z
-     ∙ ap (λ (x : List ℕ). take (c .args .used) (c .args .block .now) ++ x) (drop-replicate (c .args .used) 128 0))
+    ∙ ap (λ (x : List ℕ). take (c .args .used) (c .args .block .now) ++ x) (drop-replicate (c .args .used) 128 0))
