@@ -37,7 +37,6 @@ words-all block w n f =
 
 -- a word of the schedule is read from the words before it alone
 next-front : (w : List ℕ) (t : ℕ) → 16 ≤ t → nextWord w t ≡ nextWord (take t w) t
-unfolding nextWord
 next-front w t h =
     let a : getD (take t w) (t - 2) 0 ≡ getD w (t - 2) 0 = getD-take t w (t - 2) 0 (omega arith) in
     let b : getD (take t w) (t - 7) 0 ≡ getD w (t - 7) 0 = getD-take t w (t - 7) 0 (omega arith) in

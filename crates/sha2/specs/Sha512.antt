@@ -72,7 +72,7 @@ unfoldable pub words : List ℕ → List ℕ
 words block = map (λ i. bigEndian (take 8 (drop (8 * i) block))) (counting 0 16)
 
 -- word t of the message schedule, from the words before it
-unfoldable pub nextWord : List ℕ → ℕ → ℕ
+abbrev pub nextWord : List ℕ → ℕ → ℕ
 nextWord w t = plus (plus (plus (smallSigma1 (getD w (t - 2) 0)) (getD w (t - 7) 0)) (smallSigma0 (getD w (t - 15) 0))) (getD w (t - 16) 0)
 
 -- the message schedule: the words w of a block, and n more

@@ -161,7 +161,7 @@ fn add_words(h: &mut [u64; 8], v: &[u64; 8])
 }
 
 // The next chaining value, after h and a block.
-pub fn compress_block(h: &mut [u64; 8], block: &[u8])
+pub(crate) fn compress_block(h: &mut [u64; 8], block: &[u8])
     requires { ⌜ length (now block) ≡ 128 ⌝ }
     ensures { λ _. ⌜ now (h .exit) ≡ compress (now (h .entry)) (now (block .entry)) ⌝ }
 {

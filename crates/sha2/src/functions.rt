@@ -27,20 +27,20 @@ fn big_sigma_1(x: u64) -> u64
     x.rotate_right(14) ^ x.rotate_right(18) ^ x.rotate_right(41)
 }
 
-pub fn small_sigma_0(x: u64) -> u64
+pub(crate) fn small_sigma_0(x: u64) -> u64
     ensures { λ r. ⌜ r ≡ smallSigma0 x ⌝ }
 {
     x.rotate_right(1) ^ x.rotate_right(8) ^ (x >> 7)
 }
 
-pub fn small_sigma_1(x: u64) -> u64
+pub(crate) fn small_sigma_1(x: u64) -> u64
     ensures { λ r. ⌜ r ≡ smallSigma1 x ⌝ }
 {
     x.rotate_right(19) ^ x.rotate_right(61) ^ (x >> 6)
 }
 
 // One round on the working variables a to h.
-pub fn one_round(v: &mut [u64; 8], k: u64, w: u64)
+pub(crate) fn one_round(v: &mut [u64; 8], k: u64, w: u64)
     ensures { λ _. ⌜ now (v .exit) ≡ round (now (v .entry)) k w ⌝ }
 {
     let [a, b, c, d, e, f, g, h] = *v;

@@ -31,7 +31,7 @@ fn put_length(block: &mut [u8; 128], n: usize)
 
 // The last chaining value of a message of so many bytes, of which those past the last whole block
 // stand at the front of the block: the padding ends that block, or the one after it.
-pub fn absorb_last(h: &mut [u64; 8], block: &[u8; 128], taken: usize)
+pub(crate) fn absorb_last(h: &mut [u64; 8], block: &[u8; 128], taken: usize)
     ensures { λ _. ⌜ now (h .exit) ≡ absorb (now (h .entry)) (take (taken % 128) (now (block .entry)) ++ padding taken) ⌝ }
 {
     let used = taken % 128;
@@ -56,7 +56,7 @@ fn byte_of(h: &[u64; 8], i: usize) -> u8
 }
 
 // The bytes of the first four words.
-pub fn write_digest(h: &[u64; 8], out: &mut [u8; 32])
+pub(crate) fn write_digest(h: &[u64; 8], out: &mut [u8; 32])
     ensures { λ _. ⌜ now (out .exit) ≡ take 32 (digest (now (h .entry))) ⌝ }
 {
     for i in 0..32 {

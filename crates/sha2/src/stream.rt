@@ -1,9 +1,9 @@
 // The hash: bytes are taken as they come, and each block is absorbed once it is full.
 ghost use mathlib.Core.Path.{_≡_};
-ghost use mathlib.Core.List.{_∷_, _++_};
+ghost use mathlib.Core.List.{[], _∷_, _++_};
 ghost use Prim.Native.Nat.{_+_, _<_, _≤_};
-ghost use lib.ListN.{length};
-ghost use Rattle.sha2.specs.Sha512.{sha2Rule};
+ghost use lib.ListN.{length, take};
+ghost use Rattle.sha2.specs.Sha512.{digest, sha2Rule};
 ghost use Rattle.sha2.specs.State.{leftOf, outcomeOf};
 use crate::Sha2;
 use crate::compression::compress_block;
@@ -71,6 +71,15 @@ impl Sha2 {
             }
         }
     }
+
+    // The chaining value after all that was taken and the padding.
+    fn last_chaining(&self) -> [u64; 8]
+        ensures { λ r. ⌜ take 32 (digest r) ≡ outcomeOf (now (self .entry)) [] ⌝ }
+    {
+        let mut h = self.chaining;
+        absorb_last(&mut h, &self.block, self.taken);
+        h
+    }
 }
 
 pub impl Hash for Sha2 as Sha2Hash {
@@ -83,8 +92,7 @@ pub impl Hash for Sha2 as Sha2Hash {
     ghost outcome = { outcomeOf };
 
     fn start(&mut self) {
-        self.chaining = INITIAL;
-        self.taken = 0;
+        *self = Sha2::new();
     }
 
     fn take(&mut self, bytes: &[u8]) -> Result<(), Fault> {
@@ -96,8 +104,8 @@ pub impl Hash for Sha2 as Sha2Hash {
     }
 
     fn finish(&mut self, out: &mut [u8; 32]) {
-        absorb_last(&mut self.chaining, &self.block, self.taken);
-        write_digest(&self.chaining, out);
+        let last = self.last_chaining();
+        write_digest(&last, out);
         self.start();
     }
 
