@@ -1,12 +1,12 @@
 -- What blocks, the padding and the bytes of the chaining value come to.
-use mathlib.Core.Path.{_≡_, refl, sym, ap, ap₂, fun-ext, _∙_}
-use mathlib.Core.List.{List, [], _∷_, _++_, map, append-assoc}
+use mathlib.Core.Path.{_≡_, refl, sym, ap, ap₂, _∙_}
+use mathlib.Core.List.{List, [], _∷_, _++_, append-assoc}
 use mathlib.Core.Logic.{_⊎_, inl, inr}
-use Prim.Native.Nat.{ℕ, zero, suc, _+_, _-_, _*_, _/_, _%_, _<_, _≤_}
+use Prim.Native.Nat.{ℕ, suc, _+_, _-_, _*_, _/_, _%_, _<_, _≤_}
 use native.Mathlib.Nat.{div-one}
 use native.Mathlib.Omega.{arith}
-use lib.ListN.{length, getD, set, take, drop, replicate}
-use Rattle.std.proofs.shelf.Lists.{length-take, length-append, length-replicate, getD-take, take-all, take-at, drop-at, take-more-set, length-set, set-at, getD-append-left, getD-append-right, ext-getD, append-nil, replicate-append-replicate}
+use lib.ListN.{length, getD, set, take, replicate}
+use Rattle.std.proofs.shelf.Lists.{length-take, length-append, length-replicate, getD-take, take-at, drop-at, set-at, getD-append-left, getD-append-right, ext-getD, append-nil, replicate-append-replicate}
 use Rattle.sha2.specs.Sha512.{compress, blocks, absorb, bytesOf, padding, digest, byteAt}
 
 pub absorb-block : (h b m : List ℕ) → length b ≡ 128 → absorb h (b ++ m) ≡ absorb (compress h b) m
@@ -40,19 +40,22 @@ close m r used h n e =
     let z : 128 - used ≡ suc (127 - used) = omega arith in
     ap (λ x. set x used 128) (e ∙ ap (λ x. m ++ replicate x 0) z) ∙ set-at m 0 (replicate (127 - used) 0) 128 used n
 
+-- a list and a bit 1, and then bits 0 in two parts
+zeros-parts : (m : List ℕ) (n k j : ℕ) → n ≡ k + j → m ++ 128 ∷ replicate n 0 ≡ (m ++ 128 ∷ replicate k 0) ++ replicate j 0
+zeros-parts m n k j e =
+    ap (λ x. m ++ 128 ∷ replicate x 0) e
+    ∙ ap (λ x. m ++ 128 ∷ x) (sym (replicate-append-replicate k j 0))
+    ∙ sym (append-assoc m (128 ∷ replicate k 0) (replicate j 0))
+
 -- the padding within the block that is in use
 pub pad-one : (m last : List ℕ) (used taken k : ℕ) → used ≡ taken % 128 → used + 16 + k ≡ 127 → length m ≡ used → last ≡ m ++ 128 ∷ replicate (127 - used) 0
     → take 112 last ++ bytesOf 16 (8 * taken) ≡ m ++ padding taken
 unfolding padding
 pad-one m last used taken k u h n e =
-    let z : 127 - used ≡ k + (127 - used - k) = omega arith in
     let p : k ≡ (239 - taken % 128) % 128 = omega arith in
-    let split : last ≡ (m ++ 128 ∷ replicate k 0) ++ replicate (127 - used - k) 0 =
-    e ∙ ap (λ x. m ++ 128 ∷ replicate x 0) z
-    ∙ ap (λ x. m ++ 128 ∷ x) (sym (replicate-append-replicate k (127 - used - k) 0))
-    ∙ sym (append-assoc m (128 ∷ replicate k 0) (replicate (127 - used - k) 0)) in
     let l : length (m ++ 128 ∷ replicate k 0) ≡ 112 = simp (length-append, length-replicate) (omega arith) in
-    ap (λ x. x ++ bytesOf 16 (8 * taken)) (ap (take 112) split ∙ take-at (m ++ 128 ∷ replicate k 0) (replicate (127 - used - k) 0) 112 l)
+    ap (λ x. take 112 x ++ bytesOf 16 (8 * taken)) (e ∙ zeros-parts m (127 - used) k 16 (omega arith))
+    ∙ ap (λ x. x ++ bytesOf 16 (8 * taken)) (take-at (m ++ 128 ∷ replicate k 0) (replicate 16 0) 112 l)
     ∙ append-assoc m (128 ∷ replicate k 0) (bytesOf 16 (8 * taken))
     ∙ ap (λ x. m ++ (128 ∷ replicate x 0 ++ bytesOf 16 (8 * taken))) p
 
@@ -61,12 +64,11 @@ pub pad-two : (m last zs : List ℕ) (used taken k : ℕ) → used ≡ taken % 1
     → k ≡ 112 → zs ≡ replicate k 0 → last ++ (zs ++ bytesOf 16 (8 * taken)) ≡ m ++ padding taken
 unfolding padding
 pad-two m last zs used taken k u h e f d =
-    let p : (127 - used) + k ≡ (239 - taken % 128) % 128 = omega arith in
+    let p : (239 - taken % 128) % 128 ≡ (127 - used) + k = omega arith in
     ap₂ (λ x y. x ++ (y ++ bytesOf 16 (8 * taken))) e d
-    ∙ append-assoc m (128 ∷ replicate (127 - used) 0) (replicate k 0 ++ bytesOf 16 (8 * taken))
-    ∙ ap (λ x. m ++ 128 ∷ x) (sym (append-assoc (replicate (127 - used) 0) (replicate k 0) (bytesOf 16 (8 * taken))))
-    ∙ ap (λ x. m ++ 128 ∷ (x ++ bytesOf 16 (8 * taken))) (replicate-append-replicate (127 - used) k 0)
-    ∙ ap (λ x. m ++ (128 ∷ replicate x 0 ++ bytesOf 16 (8 * taken))) p
+    ∙ sym (append-assoc (m ++ 128 ∷ replicate (127 - used) 0) (replicate k 0) (bytesOf 16 (8 * taken)))
+    ∙ ap (λ x. x ++ bytesOf 16 (8 * taken)) (sym (zeros-parts m ((239 - taken % 128) % 128) (127 - used) k p))
+    ∙ append-assoc m (128 ∷ replicate ((239 - taken % 128) % 128) 0) (bytesOf 16 (8 * taken))
 
 length-8 : (x : ℕ) → length (bytesOf 8 x) ≡ 8
 unfolding bytesOf

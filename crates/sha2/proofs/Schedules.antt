@@ -1,15 +1,14 @@
 -- What the loops of the compression function keep.
-use mathlib.Core.Path.{_≡_, refl, sym, ap, ap₂, _∙_}
+use mathlib.Core.Path.{_≡_, sym, ap, ap₂, _∙_}
 use mathlib.Core.List.{List, [], _∷_, _++_, map}
-use mathlib.Core.Logic.{_⊎_, inl, inr}
-use Prim.Native.Nat.{ℕ, zero, suc, _+_, _-_, _*_, _<_, _≤_}
+use Prim.Native.Nat.{ℕ, suc, _+_, _-_, _*_, _<_, _≤_}
 use native.Mathlib.Nat.{add-zero}
 use native.Mathlib.Numerals.{add-one}
 use native.Mathlib.Omega.{arith}
 use lib.ListN.{length, getD, set, take, drop}
-use Rattle.std.specs.Iters.{counting, folded}
+use Rattle.std.specs.Iters.{counting}
 use Rattle.std.proofs.shelf.Counted.{fill-by-all}
-use Rattle.std.proofs.shelf.Lists.{length-take, length-drop, length-take-le, getD-take, getD-drop, take-all, take-more-set}
+use Rattle.std.proofs.shelf.Lists.{length-take, length-drop, length-take-le, getD-take, getD-drop, take-more-set}
 use Rattle.sha2.specs.Sha512.{plus, bigEndian, words, nextWord, schedule, constants, round, rounds, sums}
 
 eight : (xs : List ℕ) (k : ℕ) → k + 8 ≤ length xs → take 8 (drop k xs) ≡ map (λ j. getD xs (k + j) 0) (counting 0 8)

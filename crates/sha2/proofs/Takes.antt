@@ -1,12 +1,12 @@
 -- What SHA-512 gives as bytes are taken.
 use mathlib.Core.Path.{_≡_, refl, sym, ap, ap₂, fun-ext, _∙_}
 use mathlib.Core.List.{List, [], _∷_, _++_, append-assoc}
-use Prim.Native.Nat.{ℕ, zero, suc, _+_, _-_, _*_, _/_, _%_, _<_, _≤_}
+use Prim.Native.Nat.{ℕ, zero, suc, _+_, _-_, _/_, _%_, _<_, _≤_}
 use native.Mathlib.Nat.{zero-add}
 use native.Mathlib.Omega.{arith}
 use lib.ListN.{length, getD, set, take, drop}
 use Rattle.std.proofs.shelf.Counted.{length-map-counting}
-use Rattle.std.proofs.shelf.Lists.{length-take, length-append, length-set, take-all, take-take, take-more, take-more-set, take-append-drop, drop-take, append-nil}
+use Rattle.std.proofs.shelf.Lists.{length-take, length-append, length-set, take-all, take-take, take-more-set, take-append-drop, drop-take, append-nil}
 use Rattle.sha2.specs.Sha512.{plus, initial, sums, rounds, schedule, words, compress, blocks, absorb, padding, digest, sha512, sha2Rule, goesOn}
 use Rattle.sha2.proofs.Blocks.{absorb-block, length-digest}
 

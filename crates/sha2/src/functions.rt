@@ -1,6 +1,6 @@
 // The functions of a word and the round of SHA-512.
 ghost use mathlib.Core.Path.{_≡_};
-ghost use Rattle.sha2.specs.Sha512.{bigSigma0, bigSigma1, smallSigma0, smallSigma1, ch, maj, nextWord, round};
+ghost use Rattle.sha2.specs.Sha512.{bigSigma0, bigSigma1, smallSigma0, smallSigma1, ch, maj, round};
 
 // The six functions of FIPS 180-4: Ch, Maj, and the Sigmas.
 fn choice(e: u64, f: u64, g: u64) -> u64

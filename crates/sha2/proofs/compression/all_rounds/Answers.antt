@@ -1,6 +1,4 @@
-use mathlib.Core.Path.{refl, _∙_, ap}
-use Prim.Native.Nat.{ℕ}
-use native.Mathlib.Omega.{arith}
+use mathlib.Core.Path.{refl, _∙_}
 use Rattle.sha2.specs.Sha512.{rounds, constants}
 use Rattle.sha2.proofs.Schedules.{rounds-more}
 use Rattle.sha2.proofs.compression.all_rounds.Needs as need

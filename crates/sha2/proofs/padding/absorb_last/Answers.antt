@@ -1,8 +1,8 @@
-use mathlib.Core.Path.{_≡_, refl, ap, sym, _∙_}
+use mathlib.Core.Path.{refl, ap, sym, _∙_}
 use mathlib.Core.List.{List, _++_}
 use Prim.Native.Nat.{ℕ, _-_, _%_}
 use native.Mathlib.Omega.{arith}
-use lib.ListN.{length, take, replicate}
+use lib.ListN.{take, replicate}
 use Rattle.std.proofs.shelf.Lists.{length-take-le, take-replicate}
 use Rattle.sha2.specs.Sha512.{absorb}
 use Rattle.sha2.proofs.Blocks.{absorb-block, absorb-one, pad-one, pad-two}

@@ -4,7 +4,6 @@ use Prim.Native.Nat.{ℕ, _+_, _-_}
 use native.Mathlib.Nat.{zero-add}
 use native.Mathlib.Omega.{arith}
 use lib.ListN.{set, getD, take, drop, replicate}
-use lib.Seq.{paste}
 use Rattle.std.proofs.shelf.Edits.{paste-more}
 use Rattle.std.proofs.shelf.Lists.{drop-replicate, length-take-le}
 use Rattle.sha2.proofs.Blocks.{close}

@@ -1,9 +1,8 @@
-use mathlib.Core.Path.{_≡_, ap, ap₂, sym, _∙_}
+use mathlib.Core.Path.{_≡_, ap, _∙_}
 use mathlib.Core.List.{List, [], _++_}
 use Prim.Native.Nat.{ℕ, _+_, _*_}
 use native.Mathlib.Omega.{arith}
-use lib.ListN.{length, set, getD, take, drop}
-use lib.Seq.{paste}
+use lib.ListN.{set, getD, take, drop}
 use Rattle.std.proofs.shelf.Edits.{paste-none, paste-more, paste-all}
 use Rattle.std.proofs.shelf.Lists.{drop-all, append-nil}
 use Rattle.sha2.proofs.Blocks.{bytes-16}
