@@ -1,0 +1,3 @@
+pub mod Schedules
+pub mod Blocks
+pub mod Takes
