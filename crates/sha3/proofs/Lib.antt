@@ -1,0 +1,2 @@
+pub mod Laps
+pub mod Blocks
