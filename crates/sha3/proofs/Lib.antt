@@ -1,2 +1,3 @@
-pub mod Laps
+pub mod Lanes
 pub mod Blocks
+pub mod Outcomes

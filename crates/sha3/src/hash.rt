@@ -1,0 +1,83 @@
+// The hash over the sponge.
+ghost use mathlib.Core.Path.{_≡_};
+ghost use mathlib.Core.List.{_∷_, _++_};
+ghost use Rattle.sha3.specs.Sponge.{sha3Rule, outcomeOf};
+use crate::Sha3;
+use crate::sponge;
+use hashes::Hash;
+use levels::faults::Fault;
+
+const CAPACITY: usize = 65536;
+
+impl Sha3 {
+    // A hash that has begun.
+    pub fn new() -> Self
+        ensures fresh { λ r. ⌜ r .left ≡ 65536 ⌝ }
+        ensures ruled { λ r. ⌜ outcomeOf r ≡ sha3Rule ⌝ }
+    {
+        Sha3 {
+            state: [0; 25],
+            block: [0; 72],
+            used: 0,
+            left: CAPACITY,
+        }
+    }
+
+    fn push(&mut self, b: u8)
+        ensures more { λ _. ⌜ outcomeOf (now (self .exit)) ≡ (λ xs. outcomeOf (now (self .entry)) (b ∷ xs)) ⌝ }
+        ensures kept { λ _. ⌜ now (self .exit) .left ≡ now (self .entry) .left ⌝ }
+    {
+        self.block[self.used] = b;
+        if self.used == 71 {
+            sponge::absorb(&mut self.state, &self.block);
+            self.used = 0;
+        } else {
+            self.used += 1;
+        }
+    }
+
+    fn push_all(&mut self, bytes: &[u8])
+        ensures more { λ _. ⌜ outcomeOf (now (self .exit)) ≡ (λ xs. outcomeOf (now (self .entry)) (now (bytes .entry) ++ xs)) ⌝ }
+        ensures kept { λ _. ⌜ now (self .exit) .left ≡ now (self .entry) .left ⌝ }
+    {
+        for b in bytes {
+            self.push(*b);
+        }
+    }
+}
+
+pub impl Hash for Sha3 as Sha3Hash {
+    ghost rule = { λ _. sha3Rule };
+
+    ghost capacity = { λ _. 65536 };
+
+    ghost left = { λ s. s .left };
+
+    ghost outcome = { outcomeOf };
+
+    fn start(&mut self) {
+        self.state = [0; 25];
+        self.used = 0;
+        self.left = CAPACITY;
+    }
+
+    fn take(&mut self, bytes: &[u8]) -> Result<(), Fault> {
+        if bytes.len() > self.left {
+            return Err(Fault::SmallCapacity);
+        }
+        self.push_all(bytes);
+        self.left -= bytes.len();
+        Ok(())
+    }
+
+    fn finish(&mut self, out: &mut [u8; 32]) {
+        let last = sponge::pad(&self.block, self.used);
+        sponge::absorb(&mut self.state, &last);
+        sponge::squeeze(&self.state, out);
+        self.start();
+    }
+
+    fn capacity(&self) -> usize {
+        CAPACITY
+    }
+}
