@@ -1,12 +1,12 @@
 -- What the outcome of a hash is after a byte, a block and the last block.
-use mathlib.Core.Path.{_≡_, refl, sym, ap, ap₂, fun-ext, _∙_}
+use mathlib.Core.Path.{_≡_, refl, sym, ap, ap₂, subst, fun-ext, _∙_}
 use mathlib.Core.List.{List, [], _∷_, _++_, append-assoc}
 use Prim.Native.Nat.{ℕ, zero, suc, _+_, _-_, _/_, _%_, _<_, _≤_}
 use native.Mathlib.Omega.{arith}
 use lib.ListN.{length, getD, set, take, drop}
 use lib.Bits.{bitXor}
 use Rattle.std.specs.Iters.{folded}
-use Rattle.std.proofs.shelf.Lists.{length-take, length-append, take-all, take-at, drop-at, take-more, take-more-set, length-set, append-nil}
+use Rattle.std.proofs.shelf.Lists.{length-take, length-append, take-all, take-at, drop-at, take-more-set, length-set, append-nil}
 use Rattle.sha3.specs.Keccak.{round, constants, permuted, theta, rho, pi, chi, chiAt}
 use Rattle.sha3.specs.Sponge.{zeros, allBytes, mixedAt, mixed, absorbed, padding, padded, sponge, sha3, sha3Rule}
 use Rattle.sha3.proofs.Lanes.{length-lanes}
@@ -52,15 +52,18 @@ push-full a a′ block used b u n e =
     ∙ ap (λ x. sponge a (x ++ xs)) (sym t ∙ take-more-set block used b k)
     ∙ ap (sponge a) (append-assoc (take used block) (b ∷ []) xs)))
 
--- a loop over bytes that each go into the outcome: its step and its end
-pub pushed-more : (f g h : List ℕ → List ℕ) (bs : List ℕ) (i : ℕ) → i < length bs → g ≡ (λ xs. f (take i bs ++ xs))
-    → h ≡ (λ xs. g (getD bs i 0 ∷ xs)) → h ≡ (λ xs. f (take (i + 1) bs ++ xs))
-pushed-more f g h bs i l e d =
-    d ∙ ap {B = List ℕ → List ℕ} (λ (k : List ℕ → List ℕ) xs. k (getD bs i 0 ∷ xs)) e
-    ∙ fun-ext (λ xs. ap f (sym (append-assoc (take i bs) (getD bs i 0 ∷ []) xs) ∙ ap (λ x. x ++ xs) (sym (take-more bs i 0 l))))
+pub push-block : (a a′ block b : List ℕ) (used : ℕ) → used ≡ 0 → length b ≡ 72 → a′ ≡ permuted (mixed a b)
+    → outcome a′ block used ≡ (λ xs. outcome a block used (b ++ xs))
+push-block a a′ block b used u n e =
+    let P : ℕ → Type 0 = λ k. outcome a′ block k ≡ (λ xs. outcome a block k (b ++ xs)) in
+    subst P (sym u) (fun-ext (λ xs. ap (take 32) (ap (λ x. sponge x xs) e ∙ sym (sponge-block a b xs n))))
 
-pub pushed-all : (f g : List ℕ → List ℕ) (bs : List ℕ) (i : ℕ) → length bs ≤ i → g ≡ (λ xs. f (take i bs ++ xs)) → g ≡ (λ xs. f (bs ++ xs))
-pushed-all f g bs i l e = e ∙ fun-ext (λ xs. ap (λ x. f (x ++ xs)) (take-all i bs l))
+-- f is the outcome before the bytes m, g that after them, and h that after the bytes n too
+pub pushed-more : (f g h : List ℕ → List ℕ) (m n all : List ℕ) → g ≡ (λ xs. f (m ++ xs)) → h ≡ (λ xs. g (n ++ xs)) → all ≡ m ++ n
+    → h ≡ (λ xs. f (all ++ xs))
+pushed-more f g h m n all e d is =
+    d ∙ ap {B = List ℕ → List ℕ} (λ (k : List ℕ → List ℕ) xs. k (n ++ xs)) e
+    ∙ fun-ext (λ xs. ap f (sym (append-assoc m n xs) ∙ ap (λ x. x ++ xs) (sym is)))
 
 round-length : (a : List ℕ) (rc : ℕ) → length (round a rc) ≡ 25
 unfolding round

@@ -40,8 +40,15 @@ impl Sha3 {
         ensures more { λ _. ⌜ outcomeOf (now (self .exit)) ≡ (λ xs. outcomeOf (now (self .entry)) (now (bytes .entry) ++ xs)) ⌝ }
         ensures kept { λ _. ⌜ now (self .exit) .left ≡ now (self .entry) .left ⌝ }
     {
-        for b in bytes {
-            self.push(*b);
+        let mut i = 0;
+        while i < bytes.len() {
+            if self.used == 0 && bytes.len() - i >= 72 {
+                sponge::absorb(&mut self.state, &bytes[i..i + 72]);
+                i += 72;
+            } else {
+                self.push(bytes[i]);
+                i += 1;
+            }
         }
     }
 }

@@ -2,14 +2,15 @@
 ghost use mathlib.Core.Path.{_≡_};
 ghost use mathlib.Core.List.{_++_};
 ghost use Prim.Native.Nat.{_-_, _*_, _<_};
-ghost use lib.ListN.{take, drop};
+ghost use lib.ListN.{length, take, drop};
 ghost use Rattle.sha3.specs.Keccak.{permuted};
 ghost use Rattle.sha3.specs.Sponge.{zeros, laneOf, mixed, padded, byteAt, allBytes};
 use crate::keccak::permute;
 
 // The lane i of a block.
-fn lane_of(block: &[u8; 72], i: usize) -> u64
-    requires { ⌜ i < 9 ⌝ }
+fn lane_of(block: &[u8], i: usize) -> u64
+    requires long { ⌜ length (now block) ≡ 72 ⌝ }
+    requires low { ⌜ i < 9 ⌝ }
     ensures { λ r. ⌜ r ≡ laneOf (take 8 (drop (8 * i) (now (block .entry)))) ⌝ }
 {
     let k = 8 * i;
@@ -25,7 +26,8 @@ fn lane_of(block: &[u8; 72], i: usize) -> u64
     ])
 }
 
-fn mix(a: &mut [u64; 25], block: &[u8; 72])
+fn mix(a: &mut [u64; 25], block: &[u8])
+    requires { ⌜ length (now block) ≡ 72 ⌝ }
     ensures { λ _. ⌜ now (a .exit) ≡ mixed (now (a .entry)) (now (block .entry)) ⌝ }
 {
     for i in 0..9 {
@@ -33,7 +35,8 @@ fn mix(a: &mut [u64; 25], block: &[u8; 72])
     }
 }
 
-pub fn absorb(a: &mut [u64; 25], block: &[u8; 72])
+pub fn absorb(a: &mut [u64; 25], block: &[u8])
+    requires { ⌜ length (now block) ≡ 72 ⌝ }
     ensures { λ _. ⌜ now (a .exit) ≡ permuted (mixed (now (a .entry)) (now (block .entry))) ⌝ }
 {
     mix(a, block);
