@@ -8,7 +8,7 @@ use lib.Bits.{bitXor}
 use Rattle.std.specs.Iters.{folded}
 use Rattle.std.proofs.shelf.Lists.{length-take, length-append, take-all, take-at, drop-at, take-more-set, length-set, append-nil}
 use Rattle.sha3.specs.Keccak.{round, constants, permuted, theta, rho, pi, chi, chiAt}
-use Rattle.sha3.specs.Sponge.{zeros, allBytes, mixedAt, mixed, absorbed, padding, padded, sponge, sha3, sha3Rule}
+use Rattle.sha3.specs.Sponge.{zeros, allBytes, mixedAt, mixed, absorbed, padding, padded, sponge, sha3Rule}
 use Rattle.sha3.proofs.Lanes.{length-lanes}
 use Rattle.sha3.proofs.Blocks.{length-bytes}
 
@@ -83,7 +83,7 @@ absorbed-length (suc k) a m n =
     (rounds-length constants (mixed a (take 72 m)) (length-lanes (mixedAt a (take 72 m))))
 
 pub rule-length : (xs : List ℕ) → length (sha3Rule xs) ≡ 32
-unfolding sha3 sponge
+unfolding sponge
 rule-length xs =
     let e = absorbed-length (length xs / 72 + 1) (zeros 25) (padded xs) refl in
     let f = length-bytes (absorbed (length xs / 72 + 1) (zeros 25) (padded xs)) in

@@ -50,7 +50,7 @@ padded m = m ++ padding (71 - length m % 72)
 unfoldable pub sponge : List ℕ → List ℕ → List ℕ
 sponge a m = take 64 (allBytes (absorbed (length m / 72 + 1) a (padded m)))
 
-unfoldable pub sha3 : List ℕ → List ℕ
+abbrev pub sha3 : List ℕ → List ℕ
 sha3 m = sponge (zeros 25) m
 
 -- the rule of the hash: the first 32 bytes of SHA3-512

@@ -1,6 +1,6 @@
 // The hash over the sponge.
 ghost use mathlib.Core.Path.{_≡_};
-ghost use mathlib.Core.List.{_∷_, _++_};
+ghost use mathlib.Core.List.{[], _∷_, _++_};
 ghost use Rattle.sha3.specs.Sponge.{sha3Rule, outcomeOf};
 use crate::Sha3;
 use crate::sponge;
@@ -51,6 +51,15 @@ impl Sha3 {
             }
         }
     }
+
+    // Writes the outcome of no further bytes. Nothing is said of what it leaves in the hash.
+    fn close(&mut self, out: &mut [u8; 32])
+        ensures { λ _. ⌜ now (out .exit) ≡ outcomeOf (now (self .entry)) [] ⌝ }
+    {
+        let last = sponge::pad(&self.block, self.used);
+        sponge::absorb(&mut self.state, &last);
+        sponge::squeeze(&self.state, out);
+    }
 }
 
 pub impl Hash for Sha3 as Sha3Hash {
@@ -63,9 +72,7 @@ pub impl Hash for Sha3 as Sha3Hash {
     ghost outcome = { outcomeOf };
 
     fn start(&mut self) {
-        self.state = [0; 25];
-        self.used = 0;
-        self.left = CAPACITY;
+        *self = Sha3::new();
     }
 
     fn take(&mut self, bytes: &[u8]) -> Result<(), Fault> {
@@ -78,9 +85,7 @@ pub impl Hash for Sha3 as Sha3Hash {
     }
 
     fn finish(&mut self, out: &mut [u8; 32]) {
-        let last = sponge::pad(&self.block, self.used);
-        sponge::absorb(&mut self.state, &last);
-        sponge::squeeze(&self.state, out);
+        self.close(out);
         self.start();
     }
 

@@ -26,20 +26,14 @@ fn lane_of(block: &[u8], i: usize) -> u64
     ])
 }
 
-fn mix(a: &mut [u64; 25], block: &[u8])
-    requires { ⌜ length (now block) ≡ 72 ⌝ }
-    ensures { λ _. ⌜ now (a .exit) ≡ mixed (now (a .entry)) (now (block .entry)) ⌝ }
-{
-    for i in 0..9 {
-        a[i] ^= lane_of(block, i);
-    }
-}
-
+// A block goes into the first nine lanes, and the state is permuted.
 pub fn absorb(a: &mut [u64; 25], block: &[u8])
     requires { ⌜ length (now block) ≡ 72 ⌝ }
     ensures { λ _. ⌜ now (a .exit) ≡ permuted (mixed (now (a .entry)) (now (block .entry))) ⌝ }
 {
-    mix(a, block);
+    for i in 0..9 {
+        a[i] ^= lane_of(block, i);
+    }
     permute(a);
 }
 
