@@ -37,6 +37,7 @@ sponge-last a m last h n e =
 abbrev outcome : List ℕ → List ℕ → ℕ → List ℕ → List ℕ
 outcome a block used xs = take 32 (sponge a (take used block ++ xs))
 
+-- a byte into a block with more than one free, into the last free one, and a whole block
 pub push-more : (a block : List ℕ) (used b : ℕ) → used < length block
     → outcome a (set block used b) (used + 1) ≡ (λ xs. outcome a block used (b ∷ xs))
 push-more a block used b h =
@@ -65,6 +66,7 @@ pushed-more f g h m n all e d is =
     d ∙ ap {B = List ℕ → List ℕ} (λ (k : List ℕ → List ℕ) xs. k (n ++ xs)) e
     ∙ fun-ext (λ xs. ap f (sym (append-assoc m n xs) ∙ ap (λ x. x ++ xs) (sym is)))
 
+-- the rule gives 32 bytes
 round-length : (a : List ℕ) (rc : ℕ) → length (round a rc) ≡ 25
 unfolding round
 round-length a rc =

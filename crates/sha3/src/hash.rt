@@ -7,10 +7,11 @@ use crate::sponge;
 use hashes::Hash;
 use levels::faults::Fault;
 
+// How many bytes a hash can take.
 const CAPACITY: usize = 65536;
 
 impl Sha3 {
-    // A hash that has begun.
+    // A hash that has taken nothing.
     pub fn new() -> Self
         ensures fresh { λ r. ⌜ r .left ≡ 65536 ⌝ }
         ensures ruled { λ r. ⌜ outcomeOf r ≡ sha3Rule ⌝ }
@@ -23,6 +24,7 @@ impl Sha3 {
         }
     }
 
+    // Takes a byte into the block, which is absorbed once it is full.
     fn push(&mut self, b: u8)
         ensures more { λ _. ⌜ outcomeOf (now (self .exit)) ≡ (λ xs. outcomeOf (now (self .entry)) (b ∷ xs)) ⌝ }
         ensures kept { λ _. ⌜ now (self .exit) .left ≡ now (self .entry) .left ⌝ }
@@ -36,6 +38,7 @@ impl Sha3 {
         }
     }
 
+    // Takes all of the bytes, and whole blocks straight from them where no byte is in use.
     fn push_all(&mut self, bytes: &[u8])
         ensures more { λ _. ⌜ outcomeOf (now (self .exit)) ≡ (λ xs. outcomeOf (now (self .entry)) (now (bytes .entry) ++ xs)) ⌝ }
         ensures kept { λ _. ⌜ now (self .exit) .left ≡ now (self .entry) .left ⌝ }
@@ -52,7 +55,7 @@ impl Sha3 {
         }
     }
 
-    // Writes the outcome of no further bytes. Nothing is said of what it leaves in the hash.
+    // Writes the outcome of no further bytes. What it leaves in the hash is of no use.
     fn close(&mut self, out: &mut [u8; 32])
         ensures { λ _. ⌜ now (out .exit) ≡ outcomeOf (now (self .entry)) [] ⌝ }
     {

@@ -1,4 +1,4 @@
-// The permutation Keccak-p[1600, 24].
+// The permutation Keccak-p[1600, 24]. The lane of column x and row y is at x + 5 y.
 ghost use mathlib.Core.Path.{_≡_};
 ghost use Prim.Native.Nat.{_<_};
 ghost use Rattle.sha3.specs.Keccak.{parity, thetaAt, theta, rhoAt, rho, piAt, pi, chiAt, chi, round, permuted};
@@ -67,8 +67,8 @@ fn parity_of(a: &[u64; 25], x: usize) -> u64
     a[x] ^ a[x + 5] ^ a[x + 10] ^ a[x + 15] ^ a[x + 20]
 }
 
-// The lanes of a step, from its function for the lane at i. They are written out, so that the
-// compiler computes every index and keeps the state in registers.
+// The lanes that a step gives, each by the step's function for the lane at i. They are written
+// out, so that the compiler computes each index and keeps the lanes in registers.
 macro_rules! lanes {
     ($at:ident, $a:ident) => {
         lanes!($at, $a, 0 1 2 3 4 5 6 7 8 9 10 11 12 13 14 15 16 17 18 19 20 21 22 23 24)
@@ -131,7 +131,7 @@ fn chi(a: &[u64; 25]) -> [u64; 25]
     lanes!(chi_at, a)
 }
 
-// A round, whose last step is iota.
+// A round: theta, rho, pi, chi, and then iota with the round's constant.
 fn round(a: &mut [u64; 25], rc: u64)
     ensures { λ _. ⌜ now (a .exit) ≡ round (now (a .entry)) rc ⌝ }
 {
@@ -139,6 +139,7 @@ fn round(a: &mut [u64; 25], rc: u64)
     a[0] ^= rc;
 }
 
+// The 24 rounds.
 pub fn permute(a: &mut [u64; 25])
     ensures { λ _. ⌜ now (a .exit) ≡ permuted (now (a .entry)) ⌝ }
 {

@@ -26,7 +26,7 @@ fn lane_of(block: &[u8], i: usize) -> u64
     ])
 }
 
-// A block goes into the first nine lanes, and the state is permuted.
+// Adds a block to the first nine lanes, and permutes the state.
 pub fn absorb(a: &mut [u64; 25], block: &[u8])
     requires { ⌜ length (now block) ≡ 72 ⌝ }
     ensures { λ _. ⌜ now (a .exit) ≡ permuted (mixed (now (a .entry)) (now (block .entry))) ⌝ }
@@ -60,6 +60,7 @@ pub fn pad(block: &[u8; 72], used: usize) -> [u8; 72]
     out
 }
 
+// The byte i of a state.
 fn byte_of(a: &[u64; 25], i: usize) -> u8
     requires { ⌜ i < 32 ⌝ }
     ensures { λ r. ⌜ r ≡ byteAt (now (a .entry)) i ⌝ }
