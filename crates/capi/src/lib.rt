@@ -1,0 +1,255 @@
+// The C interface: numbers as themselves, and a slice as a pointer and a length. A kind of hash is
+// 0 for SHA3-512 and any other number for SHA-512. Each function gives a refusal's number, or 0.
+ghost use Rattle.levels.specs.Work.{Cleared};
+
+pub mod narrow;
+
+use hashes::Hash;
+use levels::Level;
+use levels::faults::Fault;
+use levels::faults::Layer;
+use levels::faults::Part;
+use levels::guards::Place;
+use levels::guards::Position;
+use levels::guards::PositionsGuard;
+use narrow::Narrow;
+use narrow::NarrowHash;
+use sha2::Sha2;
+use sha2::stream::Sha2Hash;
+use sha3::Sha3;
+use sha3::Sha3Hash;
+use shuffles::PositionNumbered;
+
+fn layer_code(layer: Layer) -> u64 {
+    match layer {
+        Layer::Call => 1,
+        Layer::Hatch => 2,
+        Layer::Hash => 3,
+        Layer::Key => 4,
+        Layer::Line => 5,
+    }
+}
+
+fn part_code(part: Part) -> u64 {
+    match part {
+        Part::None => 0,
+        Part::Support => 1,
+        Part::Coefficient => 2,
+        Part::Clash => 3,
+        Part::Zeros => 4,
+        Part::Matrix => 5,
+        Part::Rank => 6,
+    }
+}
+
+// Writes a fault as number, layer, part and place, or zeros, where there are four entries.
+fn tell(answer: Result<(), Fault>, report: &mut [u64]) -> u64 {
+    let told = match answer {
+        Ok(()) => [0, 0, 0, 0],
+        Err(fault) => {
+            let r = fault.report();
+            [
+                u64::from(r.number),
+                layer_code(r.layer),
+                part_code(r.part),
+                r.place as u64,
+            ]
+        }
+    };
+    if report.len() == 4 {
+        report.copy_from_slice(&told);
+    }
+    told[0]
+}
+
+// Starts the hash, takes two lists of bytes, and writes what comes.
+fn digest<H: Hash>(hash: &mut H, first: &[u8], second: &[u8], out: &mut [u8]) -> u64 {
+    if out.len() != 32 {
+        return 3;
+    }
+    let mut block = [0; 32];
+    hash.start();
+    if hash.take(first).is_err() || hash.take(second).is_err() {
+        return 5;
+    }
+    hash.finish(&mut block);
+    out.copy_from_slice(&block);
+    0
+}
+
+#[unsafe(no_mangle)]
+pub extern "C" fn zq_hash(kind: u8, capacity: usize, bytes: &[u8], out: &mut [u8]) -> u64 {
+    if kind == 0 {
+        digest(
+            &mut Narrow {
+                below: Sha3::new(),
+                most: capacity,
+                left: capacity,
+            },
+            bytes,
+            &[],
+            out,
+        )
+    } else {
+        digest(
+            &mut Narrow {
+                below: Sha2::new(),
+                most: capacity,
+                left: capacity,
+            },
+            bytes,
+            &[],
+            out,
+        )
+    }
+}
+
+#[unsafe(no_mangle)]
+pub extern "C" fn zq_hash_in_two(kind: u8, first: &[u8], second: &[u8], out: &mut [u8]) -> u64 {
+    if kind == 0 {
+        digest(&mut Sha3::new(), first, second, out)
+    } else {
+        digest(&mut Sha2::new(), first, second, out)
+    }
+}
+
+#[unsafe(no_mangle)]
+pub extern "C" fn zq_shuffle(seed: &[u8], items: &mut [Position]) -> u64 {
+    if seed.len() != 32 {
+        return 3;
+    }
+    shuffles::shuffle(items, seed);
+    0
+}
+
+fn permute_by(
+    seed: &[u8],
+    inverse: bool,
+    vector: &[u8],
+    out: &mut [u8],
+    positions: &mut [Position],
+) -> u64 {
+    if seed.len() != 32
+        || out.len() != vector.len()
+        || vector.len() >= 0x1000_0000
+        || positions.len() < 8 * vector.len()
+    {
+        return 3;
+    }
+    let order = &mut positions[0..8 * vector.len()];
+    shuffles::order_by(order, seed);
+    if inverse {
+        shuffles::permute_back(order, vector, out);
+    } else {
+        shuffles::permute(order, vector, out);
+    }
+    0
+}
+
+#[unsafe(no_mangle)]
+pub extern "C" fn zq_permute(
+    seed: &[u8],
+    inverse: u8,
+    vector: &[u8],
+    out: &mut [u8],
+    positions: &mut [Position],
+) -> u64
+    ensures { λ _. ⌜ Cleared (now (positions .entry)) (now (positions .exit)) ⌝ }
+{
+    let p = PositionsGuard(positions);
+    permute_by(seed, inverse != 0, vector, out, &mut p.0[..])
+}
+
+fn error_vector_at(level: &str, seed: &[u8], out: &mut [u8], positions: &mut [Position]) -> u64 {
+    let Ok(level) = Level::from_name(level) else {
+        return 1;
+    };
+    let sizes = level.sizes();
+    if seed.len() != 32 || out.len() != sizes.vector {
+        return 3;
+    }
+    if positions.len() < sizes.n {
+        return 4;
+    }
+    let n = sizes.n;
+    shuffles::error_vector(&mut positions[0..n], sizes.t, seed, out);
+    0
+}
+
+// A text that is not UTF-8 names no level, as the empty one does not.
+fn text(bytes: &[u8]) -> &str {
+    match std::str::from_utf8(bytes) {
+        Ok(name) => name,
+        Err(_) => "",
+    }
+}
+
+#[unsafe(no_mangle)]
+pub extern "C" fn zq_error_vector(
+    level: &[u8],
+    seed: &[u8],
+    out: &mut [u8],
+    positions: &mut [Position],
+) -> u64
+    ensures { λ _. ⌜ Cleared (now (positions .entry)) (now (positions .exit)) ⌝ }
+{
+    let p = PositionsGuard(positions);
+    error_vector_at(text(level), seed, out, &mut p.0[..])
+}
+
+#[unsafe(no_mangle)]
+pub extern "C" fn zq_seal(
+    level: &[u8],
+    public_key: &[u8],
+    ticket_seed: &[u8],
+    ticket: &mut [u8],
+    key: &mut [u8],
+    kind: u8,
+    capacity: usize,
+    bytes: &mut [u8],
+    places: &mut [Place],
+    positions: &mut [Position],
+    report: &mut [u64],
+) -> u64
+    ensures bytes { λ _. ⌜ Cleared (now (bytes .entry)) (now (bytes .exit)) ⌝ }
+    ensures places { λ _. ⌜ Cleared (now (places .entry)) (now (places .exit)) ⌝ }
+    ensures positions { λ _. ⌜ Cleared (now (positions .entry)) (now (positions .exit)) ⌝ }
+{
+    let name = text(level);
+    let answer = if kind == 0 {
+        let mut hash = Narrow {
+            below: Sha3::new(),
+            most: capacity,
+            left: capacity,
+        };
+        sealing::seal(
+            name,
+            public_key,
+            ticket_seed,
+            ticket,
+            key,
+            &mut hash,
+            bytes,
+            places,
+            positions,
+        )
+    } else {
+        let mut hash = Narrow {
+            below: Sha2::new(),
+            most: capacity,
+            left: capacity,
+        };
+        sealing::seal(
+            name,
+            public_key,
+            ticket_seed,
+            ticket,
+            key,
+            &mut hash,
+            bytes,
+            places,
+            positions,
+        )
+    };
+    tell(answer, report)
+}
