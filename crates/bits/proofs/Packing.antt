@@ -24,7 +24,7 @@ right : ℕ → Bool
 right n = eqb (weights 8 (bitOf n)) n
 
 all-right : T (every right 256)
-unfolding right every bitOf powerOf weights
+unfolding right every bitOf weights
 all-right = tt
 
 byte-is : (b : ℕ) → b < 256 → weights 8 (bitOf b) ≡ b

@@ -53,7 +53,7 @@ right : ℕ → Bool
 right n = Bool·beq (bitOf (2 ^ powerOf (n / 8) % 256) (n % 8)) (eqb (n % 8) (n / 8))
 
 all-right : T (every right 64)
-unfolding right every bitOf powerOf
+unfolding right every bitOf
 all-right = tt
 
 one-bit : (k j : ℕ) → k < 8 → j < 8 → bitOf (2 ^ powerOf k % 256) j ≡ eqb j k

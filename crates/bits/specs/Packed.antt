@@ -10,7 +10,7 @@ use Rattle.std.specs.Iters.{counting}
 use Rattle.bits.specs.Vectors.{_⊕_, Vector, Matrix}
 
 -- bit k of a byte has the weight 2 ^ powerOf k
-unfoldable pub powerOf : ℕ → ℕ
+abbrev pub powerOf : ℕ → ℕ
 powerOf k = 7 - k
 
 -- bit k of a byte

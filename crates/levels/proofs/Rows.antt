@@ -1,7 +1,7 @@
--- Rows that are tested in parts.
-use mathlib.Core.Path.{_≡_, refl, sym, _∙_}
+-- What rows that do not apply leave true.
+use mathlib.Core.Path.{_≡_, refl}
 use mathlib.Core.Bool.{Bool, true, false, cond}
-use mathlib.Core.List.{List, [], _∷_, _++_}
+use mathlib.Core.List.{List, [], _∷_}
 use Prim.Native.Nat.{ℕ, _≤_}
 use lib.Dec.{eqb, ltb}
 use native.Mathlib.Omega.{arith}
@@ -10,24 +10,6 @@ use Rattle.std.specs.declared.result.Result.the-variants.{Ok, Err}
 use Rattle.levels.specs.declared.faults.Fault.{Fault}
 use Rattle.std.proofs.shelf.Tests.{eqb-true, ltb-false, not-false}
 use Rattle.levels.specs.Rows.{Row, row, firstOf, lengthRow}
-
--- a row of the first part answers
-pub first-stops :
-    {X Y : Type 0} (rows more : List Row) (x : X) (y : Y) (f : Fault) → firstOf rows x ≡ Err f → firstOf (rows ++ more) y ≡ Err f
-first-stops [] more x y f e = let z : _≡_ {A = ℕ} 0 1 = cc in absurd (omega arith)
-first-stops {X} {Y} (r ∷ rows) more x y f e = at (r .applies) (first-stops rows more x y f) e where
-  at : (b : Bool) → (firstOf rows x ≡ Err f → firstOf (rows ++ more) y ≡ Err f) → cond b (Err (r .fault)) (firstOf rows x) ≡ Err f → cond b (Err (r .fault)) (firstOf (rows ++ more) y) ≡ Err f
-  at true h q = cc
-  at false h q = h q
-
--- none of the first part does
-pub first-passes :
-    {X Y : Type 0} (rows more : List Row) (x z : X) (y : Y) → firstOf rows x ≡ Ok z → firstOf (rows ++ more) y ≡ firstOf more y
-first-passes [] more x z y e = refl
-first-passes {X} {Y} (r ∷ rows) more x z y e = at (r .applies) (first-passes rows more x z y) e where
-  at : (b : Bool) → (firstOf rows x ≡ Ok z → firstOf (rows ++ more) y ≡ firstOf more y) → cond b (Err (r .fault)) (firstOf rows x) ≡ Ok z → cond b (Err (r .fault)) (firstOf (rows ++ more) y) ≡ firstOf more y
-  at true h q = let n : _≡_ {A = ℕ} 0 1 = cc in absurd (omega arith)
-  at false h q = h q
 
 -- where no row answered, the first did not
 pub first-passed :

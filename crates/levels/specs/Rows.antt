@@ -27,9 +27,6 @@ firstOf (r ∷ rows) x = cond (r .applies) (Err (r .fault)) (firstOf rows x)
 abbrev pub answer : List Row → Result (Unit {0}) Fault
 answer rows = firstOf rows tt
 
-abbrev pub pass : Result (Unit {0}) Fault
-pass = Ok tt
-
 -- a buffer has not the length that it should have
 abbrev pub lengthRow : ℕ → ℕ → ℕ → Row
 lengthRow buffer is should = row (not (eqb is should)) (WrongLength buffer)

@@ -23,7 +23,7 @@ right : ℕ → Bool
 right n = Bool·beq (parityOf n) (eqb (ones n % 2) 1)
 
 all-right : T (every right 256)
-unfolding right every parityOf dot bitOf powerOf ones
+unfolding right every parityOf dot bitOf ones
 all-right = tt
 
 pub parity-ones : (n : ℕ) → n < 256 → parityOf n ≡ eqb (ones n % 2) 1

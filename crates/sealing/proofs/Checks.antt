@@ -12,42 +12,12 @@ use Rattle.levels.specs.declared.checks.WorkLengths.{WorkLengths}
 use Rattle.levels.specs.declared.faults.Fault.{Fault}
 use Rattle.levels.specs.declared.faults.Fault.the-variants.{ShortWork, SmallCapacity}
 use Rattle.levels.specs.Table.{sizesOf, Lawful}
-use Rattle.levels.specs.Rows.{Row, row, firstOf, answer, pass, lengthRow, workRows, capacityRow}
-use Rattle.levels.proofs.Rows.{first-stops, first-passes, last-passed, length-passed, bound-passed}
+use Rattle.levels.specs.Rows.{Row, row, lengthRow, capacityRow}
+use Rattle.levels.proofs.Rows.{last-passed, length-passed, bound-passed}
 use Rattle.levels.proofs.Table.{lawful}
 use Rattle.sealing.specs.declared.Lengths.{Lengths}
 use Rattle.sealing.specs.Tickets.{Rule}
-use Rattle.sealing.specs.Calls.{bufferRows, sealRows, checkedAt, Sealed, SealedAt}
-
-module _ (lv : Result Level Fault) (l : Level) (s : Sizes) (b : Lengths) (w : WorkLengths) (n : ℕ) (is : lv ≡ Ok l) (table : s ≡ sizesOf l) where
-  checked : checkedAt lv b w n ≡ firstOf (sealRows s b w n) s
-  checked = ap (λ (x : Result Level Fault). checkedAt x b w n) is ∙ sym (ap (λ (x : Sizes). firstOf (sealRows x b w n) x) table)
-
-  pub stops-at-buffers : (f : Fault) → answer (bufferRows s b) ≡ Err f → Err f ≡ checkedAt lv b w n
-  unfolding sealRows
-  stops-at-buffers f e = sym (checked ∙ first-stops (bufferRows s b) (workRows s w ++ (capacityRow s n ∷ [])) (tt {0}) s f e)
-
-  pub stops-at-work : (f : Fault) → answer (bufferRows s b) ≡ pass → answer (workRows s w) ≡ Err f → Err f ≡ checkedAt lv b w n
-  unfolding sealRows
-  stops-at-work f p e =
-      sym (checked ∙ (first-passes (bufferRows s b) (workRows s w ++ (capacityRow s n ∷ [])) (tt {0}) (tt {0}) s p
-      ∙ first-stops (workRows s w) (capacityRow s n ∷ []) (tt {0}) s f e))
-
-  rest : answer (bufferRows s b) ≡ pass → answer (workRows s w) ≡ pass → checkedAt lv b w n ≡ firstOf (capacityRow s n ∷ []) s
-  unfolding sealRows
-  rest p q =
-      checked ∙ (first-passes (bufferRows s b) (workRows s w ++ (capacityRow s n ∷ [])) (tt {0}) (tt {0}) s p
-      ∙ first-passes (workRows s w) (capacityRow s n ∷ []) (tt {0}) (tt {0}) s q)
-
-  pub stops-at-capacity :
-      (f : Fault) → answer (bufferRows s b) ≡ pass → answer (workRows s w) ≡ pass → answer (capacityRow s n ∷ []) ≡ Err f
-      → Err f ≡ checkedAt lv b w n
-  stops-at-capacity f p q e = sym (rest p q ∙ first-stops (capacityRow s n ∷ []) [] (tt {0}) s f e)
-
-  pub passes :
-      answer (bufferRows s b) ≡ pass → answer (workRows s w) ≡ pass → answer (capacityRow s n ∷ []) ≡ pass
-      → Ok s ≡ checkedAt lv b w n
-  passes p q e = sym (rest p q ∙ first-passes (capacityRow s n ∷ []) [] (tt {0}) (tt {0}) s e)
+use Rattle.sealing.specs.Calls.{sealRows, checkedAt, Sealed, SealedAt}
 
 -- what the tests of a seal leave true
 pub record Fits (s : Sizes) (b : Lengths) (w : WorkLengths) (capacity : ℕ) : Type 0 where
@@ -62,7 +32,6 @@ pub record Fits (s : Sizes) (b : Lengths) (w : WorkLengths) (capacity : ℕ) : T
 
 pub fits :
     (lv : Result Level Fault) (s : Sizes) (b : Lengths) (w : WorkLengths) (n : ℕ) → checkedAt lv b w n ≡ Ok s → Fits s b w n
-unfolding sealRows
 fits (Err f) s b w n e = let z : _≡_ {A = ℕ} 0 1 = cc in absurd (omega arith)
 fits (Ok l) s b w n e =
     let x = sizesOf l in

@@ -32,9 +32,9 @@ pub own-packing : (q : ℕ) (e : List ℕ) → length e ≡ q → Bytes e → e 
 own-packing q e n small = packed-is q (vector e) e n small (λ i l. refl)
 
 pub head-is :
-    (s : Sizes) (rule : Rule) (e : List ℕ) → length e ≡ s .vector → Bytes e → rule (codes "PALOMAGG" ++ e) ≡ headOf s rule (vector e)
+    (s : Sizes) (rule : Rule) (e : List ℕ) → length e ≡ s .vector → Bytes e → rule (codes "PALOMAGG" ++ (e ++ [])) ≡ headOf s rule (vector e)
 unfolding headOf
-head-is s rule e n small = ap (λ (x : List ℕ). rule (codes "PALOMAGG" ++ x)) (own-packing (s .vector) e n small)
+head-is s rule e n small = ap (λ (x : List ℕ). rule (codes "PALOMAGG" ++ x)) (append-nil e ∙ own-packing (s .vector) e n small)
 
 -- only the first 8 q bits of the permuted vector count
 permuted-product :

@@ -18,17 +18,14 @@ use Rattle.shuffles.specs.Orders.{errorVector}
 use Rattle.sealing.specs.declared.Lengths.{Lengths}
 use Rattle.sealing.specs.Tickets.{Rule, Seals, keyOf}
 
--- the rows of the buffers' lengths
-abbrev pub bufferRows : Sizes → Lengths → List Row
-bufferRows s b =
+-- the rows after the level's, in their order
+abbrev pub sealRows : Sizes → Lengths → WorkLengths → ℕ → List Row
+sealRows s b w capacity =
     lengthRow 0 (b .«public_key») (s .«public_key»)
     ∷ lengthRow 1 (b .«ticket_seed») 32
     ∷ lengthRow 2 (b .ticket) (s .ticket)
-    ∷ lengthRow 3 (b .key) 32 ∷ []
-
--- the rows after the level's, in their order
-unfoldable pub sealRows : Sizes → Lengths → WorkLengths → ℕ → List Row
-sealRows s b w capacity = bufferRows s b ++ (workRows s w ++ (capacityRow s capacity ∷ []))
+    ∷ lengthRow 3 (b .key) 32
+    ∷ (workRows s w ++ (capacityRow s capacity ∷ []))
 
 -- the level's sizes, or the fault of the first row that applies
 abbrev pub checkedAt : Result Level Fault → Lengths → WorkLengths → ℕ → Result Sizes Fault

@@ -11,12 +11,9 @@ ghost use Rattle.levels.specs.Table.{Lawful};
 ghost use Rattle.levels.specs.Work.{Cleared};
 ghost use Rattle.bits.specs.Packed.{vector, packed};
 ghost use Rattle.sealing.specs.Tickets.{headOf, bodyOf, Seals, keyOf};
-ghost use Rattle.sealing.specs.Calls.{bufferRows, checkedAt, accepted, publicMatrix, Sealed, SealedAt, lengthsOf, workOf};
+ghost use Rattle.sealing.specs.Calls.{sealRows, checkedAt, accepted, publicMatrix, Sealed, SealedAt, lengthsOf, workOf};
 use hashes::Hash;
-use hashes::labelled::Label;
-use hashes::labelled::Labelled;
-use hashes::labelled::LabelledHash;
-use hashes::take_all;
+use hashes::labelled::digest;
 use levels::Level;
 use levels::Sizes;
 use levels::checks::WorkLengths;
@@ -38,9 +35,14 @@ pub struct Lengths {
     pub key: usize,
 }
 
-// Each buffer has exactly its length.
-fn check_buffers(sizes: &Sizes, buffers: Lengths) -> Result<(), Fault>
-    ensures { λ r. ⌜ r ≡ answer (bufferRows (now (sizes .entry)) buffers) ⌝ }
+// The rows after the level's, in their order.
+fn check_rows(
+    sizes: &Sizes,
+    buffers: Lengths,
+    work: WorkLengths,
+    capacity: usize,
+) -> Result<(), Fault>
+    ensures { λ r. ⌜ r ≡ answer (sealRows (now (sizes .entry)) buffers work capacity) ⌝ }
 {
     if buffers.public_key != sizes.public_key {
         return Err(Fault::WrongLength(0));
@@ -54,7 +56,8 @@ fn check_buffers(sizes: &Sizes, buffers: Lengths) -> Result<(), Fault>
     if buffers.key != 32 {
         return Err(Fault::WrongLength(3));
     }
-    Ok(())
+    check_work(sizes, work)?;
+    check_capacity(sizes, capacity)
 }
 
 // The level's sizes, or the first refusal that applies.
@@ -62,53 +65,8 @@ fn check(level: &str, buffers: Lengths, work: WorkLengths, capacity: usize) -> R
     ensures { λ r. ⌜ r ≡ checkedAt (levelOf (now (level .entry))) buffers work capacity ⌝ }
 {
     let sizes = Level::from_name(level)?.sizes();
-    check_buffers(&sizes, buffers)?;
-    check_work(&sizes, work)?;
-    check_capacity(&sizes, capacity)?;
+    check_rows(&sizes, buffers, work, capacity)?;
     Ok(sizes)
-}
-
-// Writes the head for a vector, and leaves the hash as start does.
-fn write_head<H: Hash>(hash: &mut H, e: &[u8], head: &mut [u8; 32])
-    requires { ⌜ 8 + length (now e) ≤ H·Hash .capacity (now hash) ⌝ }
-    ensures wrote { λ _. ⌜ now (head .exit) ≡ H·Hash .rule (now (hash .entry)) (codes "PALOMAGG" ++ now (e .entry)) ⌝ }
-    ensures fresh { λ _. ⌜ H·Hash .left (now (hash .exit)) ≡ H·Hash .capacity (now (hash .entry)) ⌝ }
-    ensures ruled { λ _. ⌜ H·Hash .outcome (now (hash .exit)) ≡ H·Hash .rule (now (hash .entry)) ⌝ }
-    ensures same { λ _. ⌜ H·Hash .rule (now (hash .exit)) ≡ H·Hash .rule (now (hash .entry)) ⌝ }
-    ensures kept { λ _. ⌜ H·Hash .capacity (now (hash .exit)) ≡ H·Hash .capacity (now (hash .entry)) ⌝ }
-{
-    let mut over = Labelled {
-        below: *hash,
-        label: Label {
-            bytes: *b"PALOMAGG",
-        },
-    };
-    over.start();
-    take_all(&mut over, e);
-    over.finish(head);
-    hash.start();
-}
-
-// Writes the key for a vector and a ticket, and leaves the hash as start does.
-fn write_key<H: Hash>(hash: &mut H, e: &[u8], ticket: &[u8], key: &mut [u8; 32])
-    requires { ⌜ 8 + (length (now e) + length (now ticket)) ≤ H·Hash .capacity (now hash) ⌝ }
-    ensures wrote { λ _. ⌜ now (key .exit) ≡ H·Hash .rule (now (hash .entry)) (codes "PALOMAHH" ++ (now (e .entry) ++ now (ticket .entry))) ⌝ }
-    ensures fresh { λ _. ⌜ H·Hash .left (now (hash .exit)) ≡ H·Hash .capacity (now (hash .entry)) ⌝ }
-    ensures ruled { λ _. ⌜ H·Hash .outcome (now (hash .exit)) ≡ H·Hash .rule (now (hash .entry)) ⌝ }
-    ensures same { λ _. ⌜ H·Hash .rule (now (hash .exit)) ≡ H·Hash .rule (now (hash .entry)) ⌝ }
-    ensures kept { λ _. ⌜ H·Hash .capacity (now (hash .exit)) ≡ H·Hash .capacity (now (hash .entry)) ⌝ }
-{
-    let mut over = Labelled {
-        below: *hash,
-        label: Label {
-            bytes: *b"PALOMAHH",
-        },
-    };
-    over.start();
-    take_all(&mut over, e);
-    take_all(&mut over, ticket);
-    over.finish(key);
-    hash.start();
 }
 
 // Writes the body of a ticket for a vector and the ticket's head. The work memory for a second
@@ -161,7 +119,7 @@ fn write_ticket<H: Hash>(
     ensures kept { λ _. ⌜ H·Hash .capacity (now (hash .exit)) ≡ H·Hash .capacity (now (hash .entry)) ⌝ }
 {
     let mut head = [0; 32];
-    write_head(hash, e, &mut head);
+    digest(hash, b"PALOMAGG", e, &[], &mut head);
     write_body(sizes, public_key, &head, e, permuted, positions, body);
     join(&head, body, ticket);
 }
@@ -200,9 +158,9 @@ fn seal_parts<H: Hash>(
         hash,
         ticket,
     );
-    let mut digest = [0; 32];
-    write_key(hash, e, ticket, &mut digest);
-    key.copy_from_slice(&digest);
+    let mut made = [0; 32];
+    digest(hash, b"PALOMAHH", e, ticket, &mut made);
+    key.copy_from_slice(&made);
 }
 
 // Seals in the work memory, once the tests have passed.

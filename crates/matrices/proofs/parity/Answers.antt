@@ -9,7 +9,7 @@ use Rattle.matrices.proofs.Bytes.{parity-more, parity-ones}
 use Rattle.matrices.proofs.parity.Needs as need
 
 pub loop-k-holds : need.loop-k-holds
-unfolding parityOf dot bitOf powerOf
+unfolding parityOf dot bitOf
 loop-k-holds c = (omega arith, refl)
 
 pub loop-k-again : need.loop-k-again
