@@ -137,11 +137,10 @@ fn permute_by(
         return 3;
     }
     let order = &mut positions[0..8 * vector.len()];
-    shuffles::order_by(order, seed);
     if inverse {
-        shuffles::permute_back(order, vector, out);
+        shuffles::perm_inv_by(order, seed, vector, out);
     } else {
-        shuffles::permute(order, vector, out);
+        shuffles::perm_by(order, seed, vector, out);
     }
     0
 }
@@ -156,8 +155,8 @@ pub extern "C" fn zq_permute(
 ) -> u64
     ensures { λ _. ⌜ Cleared (now (positions .entry)) (now (positions .exit)) ⌝ }
 {
-    let p = PositionsGuard(positions);
-    permute_by(seed, inverse != 0, vector, out, &mut p.0[..])
+    let p = PositionsGuard { positions };
+    permute_by(seed, inverse != 0, vector, out, &mut p.positions[..])
 }
 
 fn error_vector_at(level: &str, seed: &[u8], out: &mut [u8], positions: &mut [Position]) -> u64 {
@@ -193,8 +192,8 @@ pub extern "C" fn zq_error_vector(
 ) -> u64
     ensures { λ _. ⌜ Cleared (now (positions .entry)) (now (positions .exit)) ⌝ }
 {
-    let p = PositionsGuard(positions);
-    error_vector_at(text(level), seed, out, &mut p.0[..])
+    let p = PositionsGuard { positions };
+    error_vector_at(text(level), seed, out, &mut p.positions[..])
 }
 
 #[unsafe(no_mangle)]

@@ -5,7 +5,6 @@ use Rattle.levels.specs.declared.Level.the-variants.{Sample, Level128, Level19
 use Rattle.levels.specs.Table.{sizesOf, Lawful}
 
 pub lawful : (l : Level) → Lawful (sizesOf l)
-unfolding sizesOf
 lawful Sample = omega arith
 lawful Level128 = omega arith
 lawful Level192 = omega arith

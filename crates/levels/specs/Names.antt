@@ -12,7 +12,7 @@ use Rattle.levels.specs.declared.Level.{Level}
 use Rattle.levels.specs.declared.Level.the-variants.{Sample, Level128, Level192, Level256}
 
 -- the level that a text names, or the fault that it names none
-unfoldable pub levelOf : List ℕ → Result Level Fault
+abbrev pub levelOf : List ℕ → Result Level Fault
 levelOf s =
     cond (sameBytes s (codes "sample")) (Ok Sample)
     (cond (sameBytes s (codes "128")) (Ok Level128)

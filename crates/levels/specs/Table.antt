@@ -6,7 +6,7 @@ use Rattle.levels.specs.declared.Level.the-variants.{Sample, Level128, Level19
 use Rattle.levels.specs.declared.Sizes.{Sizes}
 
 -- all numbers, level by level
-unfoldable pub sizesOf : Level → Sizes
+abbrev pub sizesOf : Level → Sizes
 sizesOf Sample =
     record { m = 6; n = 56; t = 4; k = 32; rows = 24; vector = 7; body = 3; «public_key» = 96; «secret_key» = 256; ticket = 35; capacity = 50; «work_bytes» = 4096; «work_places» = 512 }
 sizesOf Level128 =

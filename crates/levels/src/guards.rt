@@ -10,37 +10,43 @@ pub type Place = u16;
 pub type Position = u32;
 
 // The work memory for bytes.
-pub struct BytesGuard<'a>(pub &'a mut [u8]);
+pub struct BytesGuard<'a> {
+    pub bytes: &'a mut [u8],
+}
 
 impl Drop for BytesGuard<'_> {
     fn drop(self)
-        ensures { λ _. ⌜ Cleared (now (self .entry .0)) (now (self .exit .0)) ⌝ }
+        ensures { λ _. ⌜ Cleared (now (self .entry .bytes)) (now (self .exit .0)) ⌝ }
     {
-        self.0.fill(0);
-        let BytesGuard(_) = self;
+        self.bytes.fill(0);
+        let BytesGuard { bytes: _ } = self;
     }
 }
 
 // The work memory for elements.
-pub struct PlacesGuard<'a>(pub &'a mut [Place]);
+pub struct PlacesGuard<'a> {
+    pub places: &'a mut [Place],
+}
 
 impl Drop for PlacesGuard<'_> {
     fn drop(self)
-        ensures { λ _. ⌜ Cleared (now (self .entry .0)) (now (self .exit .0)) ⌝ }
+        ensures { λ _. ⌜ Cleared (now (self .entry .places)) (now (self .exit .0)) ⌝ }
     {
-        self.0.fill(0);
-        let PlacesGuard(_) = self;
+        self.places.fill(0);
+        let PlacesGuard { places: _ } = self;
     }
 }
 
 // The work memory for positions.
-pub struct PositionsGuard<'a>(pub &'a mut [Position]);
+pub struct PositionsGuard<'a> {
+    pub positions: &'a mut [Position],
+}
 
 impl Drop for PositionsGuard<'_> {
     fn drop(self)
-        ensures { λ _. ⌜ Cleared (now (self .entry .0)) (now (self .exit .0)) ⌝ }
+        ensures { λ _. ⌜ Cleared (now (self .entry .positions)) (now (self .exit .0)) ⌝ }
     {
-        self.0.fill(0);
-        let PositionsGuard(_) = self;
+        self.positions.fill(0);
+        let PositionsGuard { positions: _ } = self;
     }
 }

@@ -24,14 +24,30 @@ struct Made {
 }
 
 // Seals with SHA3-512, in work memory of the level's size.
-fn seal(heap: Global, level: &str, sizes: &Sizes, public_key: &[u8], seed: &[u8]) -> Result<Result<Made, Fault>, AllocError> {
+fn seal(
+    heap: Global,
+    level: &str,
+    sizes: &Sizes,
+    public_key: &[u8],
+    seed: &[u8],
+) -> Result<Result<Made, Fault>, AllocError> {
     let mut ticket = vec![in heap; 0u8; sizes.ticket]?;
     let mut key = vec![in heap; 0u8; 32]?;
     let mut bytes = vec![in heap; 0u8; sizes.work_bytes]?;
     let mut places = vec![in heap; 0u16; sizes.work_places]?;
     let mut positions = vec![in heap; 0u32; sizes.work_places]?;
     let mut hash = Sha3::new();
-    let answer = sealing::seal(level, public_key, seed, &mut ticket, &mut key, &mut hash, &mut bytes, &mut places, &mut positions);
+    let answer = sealing::seal(
+        level,
+        public_key,
+        seed,
+        &mut ticket,
+        &mut key,
+        &mut hash,
+        &mut bytes,
+        &mut places,
+        &mut positions,
+    );
     match answer {
         Ok(()) => Ok(Ok(Made { ticket, key })),
         Err(fault) => Ok(Err(fault)),
@@ -51,8 +67,16 @@ fn tell_refusal(rt: &LibcRuntime, fault: Fault) -> Result<(), AnyError> {
 }
 
 // What was read.
-fn tell_input(rt: &LibcRuntime, level: &str, public_key: &[u8], seed: &[u8]) -> Result<(), AnyError> {
-    println!(rt, "Read the level, the shop's public key and the customer's ticket seed:")?;
+fn tell_input(
+    rt: &LibcRuntime,
+    level: &str,
+    public_key: &[u8],
+    seed: &[u8],
+) -> Result<(), AnyError> {
+    println!(
+        rt,
+        "Read the level, the shop's public key and the customer's ticket seed:"
+    )?;
     println!(rt, "level={level}")?;
     println!(rt, "public_key={}", Hex(public_key))?;
     println!(rt, "ticket_seed={}", Hex(seed))?;
@@ -63,10 +87,16 @@ fn tell_input(rt: &LibcRuntime, level: &str, public_key: &[u8], seed: &[u8]) -> 
 fn tell_made(rt: &LibcRuntime, made: &Made) -> Result<(), AnyError> {
     let head = made.ticket.as_slice().get(..32).unwrap_or(&[]);
     let body = made.ticket.as_slice().get(32..).unwrap_or(&[]);
-    println!(rt, "Sealed with SHA3-512. The head hides the vector, the body is for the shop to decode:")?;
+    println!(
+        rt,
+        "Sealed with SHA3-512. The head hides the vector, the body is for the shop to decode:"
+    )?;
     println!(rt, "head={}", Hex(head))?;
     println!(rt, "body={}", Hex(body))?;
-    println!(rt, "The ticket, which goes to the shop, and the key of the job file, which stays here:")?;
+    println!(
+        rt,
+        "The ticket, which goes to the shop, and the key of the job file, which stays here:"
+    )?;
     println!(rt, "ticket={}", Hex(&made.ticket))?;
     println!(rt, "key={}", Hex(&made.key))?;
     Ok(())

@@ -1,6 +1,6 @@
 // Sealing: a customer seals a key in a ticket to a public key.
 ghost use mathlib.Core.Path.{_≡_};
-ghost use mathlib.Core.List.{_++_};
+ghost use mathlib.Core.List.{[], _++_};
 ghost use Prim.Native.Nat.{ℕ, _+_, _-_, _*_, _^_, _<_, _≤_};
 ghost use lib.ListN.{length};
 ghost use lib.Chars.{codes};
@@ -69,6 +69,30 @@ fn check(level: &str, buffers: Lengths, work: WorkLengths, capacity: usize) -> R
     Ok(sizes)
 }
 
+// Writes the head for a vector, and leaves the hash as start does.
+fn write_head<H: Hash>(hash: &mut H, e: &[u8], head: &mut [u8; 32])
+    requires { ⌜ 8 + length (now e) ≤ H·Hash .capacity (now hash) ⌝ }
+    ensures wrote { λ _. ⌜ now (head .exit) ≡ H·Hash .rule (now (hash .entry)) (codes "PALOMAGG" ++ (now (e .entry) ++ [])) ⌝ }
+    ensures fresh { λ _. ⌜ H·Hash .left (now (hash .exit)) ≡ H·Hash .capacity (now (hash .entry)) ⌝ }
+    ensures ruled { λ _. ⌜ H·Hash .outcome (now (hash .exit)) ≡ H·Hash .rule (now (hash .entry)) ⌝ }
+    ensures same { λ _. ⌜ H·Hash .rule (now (hash .exit)) ≡ H·Hash .rule (now (hash .entry)) ⌝ }
+    ensures kept { λ _. ⌜ H·Hash .capacity (now (hash .exit)) ≡ H·Hash .capacity (now (hash .entry)) ⌝ }
+{
+    digest(hash, b"PALOMAGG", e, &[], head);
+}
+
+// Writes the key for a vector and a ticket, and leaves the hash as start does.
+fn write_key<H: Hash>(hash: &mut H, e: &[u8], ticket: &[u8], key: &mut [u8; 32])
+    requires { ⌜ 8 + (length (now e) + length (now ticket)) ≤ H·Hash .capacity (now hash) ⌝ }
+    ensures wrote { λ _. ⌜ now (key .exit) ≡ H·Hash .rule (now (hash .entry)) (codes "PALOMAHH" ++ (now (e .entry) ++ now (ticket .entry))) ⌝ }
+    ensures fresh { λ _. ⌜ H·Hash .left (now (hash .exit)) ≡ H·Hash .capacity (now (hash .entry)) ⌝ }
+    ensures ruled { λ _. ⌜ H·Hash .outcome (now (hash .exit)) ≡ H·Hash .rule (now (hash .entry)) ⌝ }
+    ensures same { λ _. ⌜ H·Hash .rule (now (hash .exit)) ≡ H·Hash .rule (now (hash .entry)) ⌝ }
+    ensures kept { λ _. ⌜ H·Hash .capacity (now (hash .exit)) ≡ H·Hash .capacity (now (hash .entry)) ⌝ }
+{
+    digest(hash, b"PALOMAHH", e, ticket, key);
+}
+
 // Writes the body of a ticket for a vector and the ticket's head. The work memory for a second
 // vector and for positions comes in with any content.
 fn write_body(
@@ -84,8 +108,7 @@ fn write_body(
     requires vectors { ⌜ length (now e) ≡ now sizes .vector ⌝ ∗ ⌜ length (now permuted) ≡ now sizes .vector ⌝ ∗ ⌜ length (now positions) ≡ now sizes .n ⌝ }
     ensures { λ _. ⌜ now (body .exit) ≡ bodyOf (now (sizes .entry)) (publicMatrix (now (sizes .entry)) (now («public_key» .entry))) (now (head .entry)) (vector (now (e .entry))) ⌝ }
 {
-    shuffles::order_by(positions, head);
-    shuffles::permute(positions, e, permuted);
+    shuffles::perm_by(positions, head, e, permuted);
     matrices::systematic_product(public_key, permuted, body);
 }
 
@@ -119,7 +142,7 @@ fn write_ticket<H: Hash>(
     ensures kept { λ _. ⌜ H·Hash .capacity (now (hash .exit)) ≡ H·Hash .capacity (now (hash .entry)) ⌝ }
 {
     let mut head = [0; 32];
-    digest(hash, b"PALOMAGG", e, &[], &mut head);
+    write_head(hash, e, &mut head);
     write_body(sizes, public_key, &head, e, permuted, positions, body);
     join(&head, body, ticket);
 }
@@ -159,7 +182,7 @@ fn seal_parts<H: Hash>(
         ticket,
     );
     let mut made = [0; 32];
-    digest(hash, b"PALOMAHH", e, ticket, &mut made);
+    write_key(hash, e, ticket, &mut made);
     key.copy_from_slice(&made);
 }
 
@@ -265,9 +288,9 @@ pub fn seal<H: Hash>(
     ensures places { λ _. ⌜ Cleared (now (places .entry)) (now (places .exit)) ⌝ }
     ensures positions { λ _. ⌜ Cleared (now (positions .entry)) (now (positions .exit)) ⌝ }
 {
-    let b = BytesGuard(bytes);
-    let e = PlacesGuard(places);
-    let p = PositionsGuard(positions);
+    let b = BytesGuard { bytes };
+    let e = PlacesGuard { places };
+    let p = PositionsGuard { positions };
     seal_within(
         level,
         public_key,
@@ -275,8 +298,8 @@ pub fn seal<H: Hash>(
         ticket,
         key,
         hash,
-        &mut b.0[..],
-        e.0.len(),
-        &mut p.0[..],
+        &mut b.bytes[..],
+        e.places.len(),
+        &mut p.positions[..],
     )
 }

@@ -9,8 +9,7 @@ use lib.Dec.{ltb}
 use lib.ListN.{length, getD, take}
 use Rattle.std.proofs.shelf.Tests.{cases-eq, cases-lt, lt-ltb, le-ltb}
 use Rattle.bits.specs.Vectors.{Vector, weight}
-use Rattle.shuffles.specs.Orders.{order, placeOf, among, errorVector, Permutation}
-use Rattle.shuffles.proofs.Shuffles.{order-permutes}
+use Rattle.shuffles.specs.Orders.{placeOf, among, Permutation}
 use Rattle.shuffles.proofs.Orders.{place-of, at-place, among-first}
 
 pub weight-same : (n : ℕ) (v w : Vector) → ((i : ℕ) → i < n → v i ≡ w i) → weight n v ≡ weight n w
@@ -57,9 +56,7 @@ weight-first n l p (suc t) le =
             | inr h ↦ le-ltb (placeOf l i) (suc t) (omega arith) ∙ sym (le-ltb (placeOf l i) t h)
           ]
 
--- the error vector of a seed has t ones
-pub error-weight : (n t : ℕ) (seed : List ℕ) → t ≤ n → weight n (errorVector n t seed) ≡ t
-unfolding errorVector
-error-weight n t seed le =
-    weight-same n (among (take t (order n seed))) (λ i. ltb (placeOf (order n seed) i) t) (λ i l. among-first n (order n seed) (order-permutes n seed) t i l)
-    ∙ weight-first n (order n seed) (order-permutes n seed) t le
+-- the first t numbers of an order make t ones
+pub weight-among : (n : ℕ) (l : List ℕ) → Permutation n l → (t : ℕ) → t ≤ n → weight n (among (take t l)) ≡ t
+weight-among n l p t le =
+    weight-same n (among (take t l)) (λ i. ltb (placeOf l i) t) (λ i m. among-first n l p t i m) ∙ weight-first n l p t le

@@ -39,7 +39,7 @@ among [] i = false
 among (x ∷ l) i = eqb i x || among l i
 
 -- the error vector of a seed has ones at l_0 to l_(t-1), and zeros elsewhere
-unfoldable pub errorVector : ℕ → ℕ → List ℕ → Vector
+abbrev pub errorVector : ℕ → ℕ → List ℕ → Vector
 errorVector n t seed = among (take t (order n seed))
 
 -- two vectors agree below n

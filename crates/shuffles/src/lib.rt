@@ -79,8 +79,8 @@ pub fn order_by(positions: &mut [Position], seed: &[u8])
     shuffle(positions, seed);
 }
 
-// Perm: entry j of the vector goes to the place that stands at j in the order. PermInv undoes it.
-pub fn permute(order: &[Position], v: &[u8], out: &mut [u8])
+// Entry j of the vector goes to the place that stands at j in the order.
+fn permute(order: &[Position], v: &[u8], out: &mut [u8])
     requires long { ⌜ length (now order) ≡ 8 * length (now v) ⌝ ∗ ⌜ length (now out) ≡ length (now v) ⌝ }
     requires permutes { ⌜ Permutation (length (now order)) (now order) ⌝ }
     ensures after { λ _. ⌜ now (out .exit) ≡ packed (length (now (out .entry))) (perm (now (order .entry)) (vector (now (v .entry)))) ⌝ }
@@ -92,8 +92,8 @@ pub fn permute(order: &[Position], v: &[u8], out: &mut [u8])
     }
 }
 
-// PermInv: the entry at the place that stands at j in the order goes to j. Perm undoes it.
-pub fn permute_back(order: &[Position], v: &[u8], out: &mut [u8])
+// The entry at the place that stands at j in the order goes to j.
+fn permute_back(order: &[Position], v: &[u8], out: &mut [u8])
     requires long { ⌜ length (now order) ≡ 8 * length (now v) ⌝ ∗ ⌜ length (now out) ≡ length (now v) ⌝ }
     requires permutes { ⌜ Permutation (length (now order)) (now order) ⌝ }
     ensures after { λ _. ⌜ now (out .exit) ≡ packed (length (now (out .entry))) (permInv (now (order .entry)) (vector (now (v .entry)))) ⌝ }
@@ -105,11 +105,34 @@ pub fn permute_back(order: &[Position], v: &[u8], out: &mut [u8])
     }
 }
 
+// Perm of a vector by a seed: entry j goes to place l_j of the order. PermInv undoes it.
+pub fn perm_by(positions: &mut [Position], seed: &[u8], v: &[u8], out: &mut [u8])
+    requires long { ⌜ length (now positions) ≡ 8 * length (now v) ⌝ ∗ ⌜ length (now positions) < 2 ^ 32 ⌝ ∗ ⌜ length (now out) ≡ length (now v) ⌝ }
+    requires seed { ⌜ length (now seed) ≡ 32 ⌝ }
+    ensures after { λ _. ⌜ now (out .exit) ≡ packed (length (now (out .entry))) (perm (order (length (now (positions .entry))) (now (seed .entry))) (vector (now (v .entry)))) ⌝ }
+    ensures undone { λ _. ⌜ Same-bits (length (now (positions .entry))) (permInv (order (length (now (positions .entry))) (now (seed .entry))) (vector (now (out .exit)))) (vector (now (v .entry))) ⌝ }
+{
+    order_by(positions, seed);
+    permute(positions, v, out);
+}
+
+// PermInv of a vector by a seed: entry l_j of the order goes to place j. Perm undoes it.
+pub fn perm_inv_by(positions: &mut [Position], seed: &[u8], v: &[u8], out: &mut [u8])
+    requires long { ⌜ length (now positions) ≡ 8 * length (now v) ⌝ ∗ ⌜ length (now positions) < 2 ^ 32 ⌝ ∗ ⌜ length (now out) ≡ length (now v) ⌝ }
+    requires seed { ⌜ length (now seed) ≡ 32 ⌝ }
+    ensures after { λ _. ⌜ now (out .exit) ≡ packed (length (now (out .entry))) (permInv (order (length (now (positions .entry))) (now (seed .entry))) (vector (now (v .entry)))) ⌝ }
+    ensures undone { λ _. ⌜ Same-bits (length (now (positions .entry))) (perm (order (length (now (positions .entry))) (now (seed .entry))) (vector (now (out .exit)))) (vector (now (v .entry))) ⌝ }
+{
+    order_by(positions, seed);
+    permute_back(positions, v, out);
+}
+
 // Writes a vector with ones at the first t places of an order.
 fn mark(order: &[Position], t: usize, out: &mut [u8])
     requires long { ⌜ length (now order) ≡ 8 * length (now out) ⌝ ∗ ⌜ t ≤ length (now order) ⌝ }
     requires permutes { ⌜ Permutation (length (now order)) (now order) ⌝ }
-    ensures { λ _. ⌜ now (out .exit) ≡ packed (length (now (out .entry))) (among (take t (now (order .entry)))) ⌝ }
+    ensures after { λ _. ⌜ now (out .exit) ≡ packed (length (now (out .entry))) (among (take t (now (order .entry)))) ⌝ }
+    ensures weighs { λ _. ⌜ weight (length (now (order .entry))) (among (take t (now (order .entry)))) ≡ t ⌝ }
 {
     out.fill(0);
     for k in 0..t {

@@ -27,10 +27,10 @@ returns g c =
           (rw n at (c .error-vector .ensures .weighs))
           (c .write-ticket .ensures .wrote)
           (c .copy-from-slice .ensures .after
-          ∙ (c .digest .ensures .wrote
+          ∙ (c .write-key .ensures .wrote
           ∙ ap (λ (r : Rule). r (codes "PALOMAHH" ++ (c .error-vector .last .out ++ c .write-ticket .last .ticket))) same));
-      fresh = c .digest .ensures .fresh ∙ kept;
-      ruled = c .digest .ensures .ruled ∙ same;
-      same = c .digest .ensures .same ∙ same;
-      kept = c .digest .ensures .kept ∙ kept;
+      fresh = c .write-key .ensures .fresh ∙ kept;
+      ruled = c .write-key .ensures .ruled ∙ same;
+      same = c .write-key .ensures .same ∙ same;
+      kept = c .write-key .ensures .kept ∙ kept;
     }

@@ -14,7 +14,7 @@ systematic-product-requires c κs =
     let s = c .args .sizes .now in
     let h = c .pre .sizes .0 in
     let b : 8 * length (c .args .body .now) ≡ s .rows = omega (arith, h .body) in
-    let w : length (c .permute .last .out) - length (c .args .body .now) ≡ s .vector - s .body = omega arith in
+    let w : length (c .perm-by .last .out) - length (c .args .body .now) ≡ s .vector - s .body = omega arith in
     record { small = (omega (arith, h .shorter), omega (arith, h .body, h .columns, h .small)); within = rw (b, w) (omega (arith, h .matrix)) }
 
 pub returns : need.returns
@@ -23,10 +23,9 @@ returns c =
     let r = length (c .args .body .now) in
     let q = length (c .args .permuted .now) in
     let m = c .args .public-key .now in
-    let long : length (c .permute .last .out) ≡ q = omega arith in
+    let long : length (c .perm-by .last .out) ≡ q = omega arith in
     let F : ℕ → List ℕ → List ℕ = λ n x. packed r (times (8 * n) (systematic (8 * r) (matrix (n - r) m)) (vector x)) in
     c .systematic-product .ensures
-    ∙ (ap (λ n. F n (c .permute .last .out)) long
-    ∙ (ap (F q) (c .permute .ensures .after
-    ∙ ap (λ (l : List ℕ). packed q (perm l (vector (c .args .e .now)))) (c .order-by .ensures .after))
+    ∙ (ap (λ n. F n (c .perm-by .last .out)) long
+    ∙ (ap (F q) (c .perm-by .ensures .after)
     ∙ body-is s (c .pre .sizes .0) m (c .args .head .now) (c .args .e .now) r q (length (c .args .positions .now)) (omega arith) (omega arith) (omega arith)))

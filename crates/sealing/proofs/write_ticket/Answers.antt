@@ -10,13 +10,13 @@ returns g c =
     let s = c .args .sizes .now in
     record {
       wrote =
-          seals s (g .H·Hash .rule (c .args .hash .now)) (publicMatrix s (c .args .public-key .now)) (vector (c .args .e .now)) (c .digest .last .out)
+          seals s (g .H·Hash .rule (c .args .hash .now)) (publicMatrix s (c .args .public-key .now)) (vector (c .args .e .now)) (c .write-head .last .head)
           (c .write-body .last .body) (c .join .last .ticket) (c .join .ensures)
-          (c .digest .ensures .wrote
+          (c .write-head .ensures .wrote
           ∙ head-is s (g .H·Hash .rule (c .args .hash .now)) (c .args .e .now) (c .pre .vectors .0) (λ k. c .typed .e k .fits))
           (c .write-body .ensures);
-      fresh = c .digest .ensures .fresh;
-      ruled = c .digest .ensures .ruled;
-      same = c .digest .ensures .same;
-      kept = c .digest .ensures .kept;
+      fresh = c .write-head .ensures .fresh;
+      ruled = c .write-head .ensures .ruled;
+      same = c .write-head .ensures .same;
+      kept = c .write-head .ensures .kept;
     }

@@ -10,6 +10,7 @@ use Rattle.bits.proofs.Sums.{and-yes}
 use Rattle.bits.proofs.Packing.{packed-is}
 use Rattle.shuffles.specs.Orders.{placeOf, among}
 use Rattle.shuffles.proofs.Orders.{Filled, filled-none, filled-more, at-place, place-of, among-first}
+use Rattle.shuffles.proofs.Marks.{weight-among}
 use Rattle.shuffles.proofs.mark.Needs as need
 
 pub loop-k-holds : need.loop-k-holds
@@ -32,6 +33,10 @@ unfolding Filled
 returns c =
     let l = c .args .order .now in
     let e : c .loop-k .k ≡ c .args .t = omega arith in
-    packed-is (length (c .args .out .now)) _ (c .loop-k .out) (omega arith) (c .loop-k .inv .1)
-    (λ i m. (rw e at (c .loop-k .inv .0)) i (omega arith)
-    ∙ (and-yes _ ∙ sym (among-first (length l) l (c .pre .permutes) (c .args .t) i (omega arith))))
+    record {
+      after =
+          packed-is (length (c .args .out .now)) _ (c .loop-k .out) (omega arith) (c .loop-k .inv .1)
+          (λ i m. (rw e at (c .loop-k .inv .0)) i (omega arith)
+          ∙ (and-yes _ ∙ sym (among-first (length l) l (c .pre .permutes) (c .args .t) i (omega arith))));
+      weighs = weight-among (length l) l (c .pre .permutes) (c .args .t) (omega arith);
+    }
