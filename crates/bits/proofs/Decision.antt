@@ -1,14 +1,16 @@
 -- The test of independence.
-use mathlib.Core.Path.{_≡_, refl, _∙_}
+use mathlib.Core.Path.{_≡_, refl, sym, _∙_}
 use mathlib.Core.Bool.{Bool, true, false, not, _&&_, _||_, cond}
 use mathlib.Core.Logic.{inl, inr}
 use Prim.Native.Nat.{ℕ, zero, suc, _+_, _<_, _≤_}
 use native.Mathlib.Omega.{arith}
 use lib.Dec.{eqb}
 use Rattle.std.proofs.shelf.Tests.{cases-eq, cases-bool, eq-eqb, ne-eqb, both-ways}
+use Rattle.std.specs.Orderings.{When}
 use Rattle.bits.specs.Vectors.{_⊕_, Vector, Matrix, times, weight}
-use Rattle.bits.specs.Kernels.{InKernel, Independent, Dependent, someVector, relates, independent}
+use Rattle.bits.specs.Kernels.{Same, InKernel, Independent, Dependent, someVector, relates, independent, Reduced}
 use Rattle.bits.proofs.Sums.{xor-zero, dot-same}
+use Rattle.bits.proofs.Reduction.{injective}
 
 weight-none : (n : ℕ) (v : Vector) → ((k : ℕ) → k < n → v k ≡ false) → weight n v ≡ 0
 unfolding weight
@@ -146,3 +148,24 @@ independent-found r A h =
           absurd (both-ways (s .0 (q .1 .0)) (h (s .0) (q .0) (q .1 .0) (q .1 .1 .0)) (q .1 .1 .1))
       | inr f ↦ rw f
     ]
+
+pub decided : (r : ℕ) (A : Matrix) (b : Bool) → When b (Independent r A) (Dependent r A) → b ≡ independent r A
+decided r A true h = sym (independent-found r A h)
+decided r A false h = sym (dependent-found r A h)
+
+-- the test looks at the first r rows and columns alone
+some-same : (n : ℕ) (p q : Vector → Bool) → ((z : Vector) → p z ≡ q z) → someVector n p ≡ someVector n q
+unfolding someVector
+some-same zero p q h = h (λ _. false)
+some-same (suc n) p q h =
+    rw (some-same n p q h, some-same n (λ z. p (λ j. z j ⊕ eqb j n)) (λ z. q (λ j. z j ⊕ eqb j n)) (λ z. h (λ j. z j ⊕ eqb j n)))
+
+pub independent-same : (r : ℕ) (A B : Matrix) → Same r r A B → independent r A ≡ independent r B
+unfolding independent relates
+independent-same r A B s =
+    rw (some-same r (relates r A) (relates r B)
+    (λ z. rw (weight-same r (times r A z) (times r B z) (λ i l. dot-same r (A i) (B i) z z (λ j m. sym (s i j l m)) (λ j m. refl)))))
+
+pub reduced-decides : (r n : ℕ) (A B : Matrix) (b : Bool) → When b (Reduced r n A B) (Dependent r A) → When b (Independent r A) (Dependent r A)
+reduced-decides r n A B true h = injective r n A B h
+reduced-decides r n A B false h = h

@@ -8,10 +8,11 @@ use native.Mathlib.Omega.{arith}
 use lib.Dec.{eqb, ltb}
 use Rattle.std.proofs.shelf.Tests.{cases-eq, cases-lt, cases-bool, lt-ltb, le-ltb, eq-eqb, ne-eqb, both-ways}
 use Rattle.bits.specs.Vectors.{_⊕_, Vector, Matrix, dot}
-use Rattle.bits.specs.Kernels.{InKernel, SameKernel, Spanned, Ranked, none, same, more}
+use Rattle.bits.specs.Kernels.{independent, InKernel, SameKernel, Spanned, Ranked, none, same, more}
 use Rattle.bits.specs.Elimination.{Low-rows, Settled}
 use Rattle.bits.proofs.Sums.{xor-zero, xor-self, xor-same, and-no, and-yes, dot-right, dot-same, dot-none}
 use Rattle.bits.proofs.Rows.{keeps-refl, keeps-trans}
+use Rattle.bits.proofs.Decision.{independent-found, dependent-found}
 use Rattle.bits.proofs.Selections.{padded, dot-padded, padded-below, one-at, dot-one-at, with-one, with-one-at, dot-with-one}
 
 -- the unit vector with a one at place l is a sum of the first c columns
@@ -191,3 +192,11 @@ small-rank {r} {A} (more {n = n} g s) l =
         (t .1 .1 .0, (let q = t .1 .1 .1 .0 in omega arith, padded-below n (t .0) (t .1 .1 .0) (t .1 .1 .1 .0) ∙ t .1 .1 .1 .1)),
       ),
     )
+
+-- the rank of a square matrix says whether its columns are independent
+pub square-rank : (r k : ℕ) (A : Matrix) → Ranked r A r k → eqb k r ≡ independent r A
+square-rank r k A h =
+    elim (cases-eq k r) [
+      | inl e ↦ eq-eqb k r e ∙ sym (independent-found r A (λ z. full-rank h e z))
+      | inr d ↦ let l = ranked-le h in ne-eqb k r d ∙ sym (dependent-found r A (small-rank h (omega arith)))
+    ]

@@ -45,23 +45,23 @@ independent r A = not (someVector r (relates r A))
 abbrev pub Reduced : ℕ → ℕ → Matrix → Matrix → Type 0
 Reduced r n A B = (r ≤ n) × (SameKernel r n A B × Unit-columns r r B)
 
--- S · B = A, where S is the first r columns of A, and A and B have n columns
+-- S⁻¹ · B = A, where S⁻¹ is the first r columns of A, and A and B have n columns
 abbrev pub Back : ℕ → ℕ → Matrix → Matrix → Type 0
 Back r n A B = (i j : ℕ) → i < r → j < n → times r A (λ k. B k j) i ≡ A i j
 
--- [I | M] is the reduced row echelon form of A, of r rows and r + k columns. S is the first r columns of A.
+-- [I | M] is the reduced row echelon form of A, of r rows and r + k columns. S⁻¹ is the first r columns of A.
 pub record Echelon (r k : ℕ) (A M : Matrix) : Type 0 where
   -- row operations lead from the one to the other
   pub kernel : SameKernel r (r + k) A (systematic r M)
-  -- S · z = 0 for z = 0 alone
+  -- S⁻¹ · z = 0 for z = 0 alone
   pub injective : Independent r A
-  -- S · [I | M] = A
+  -- S⁻¹ · [I | M] = A
   pub back : Back r (r + k) A (systematic r M)
-  -- S · ([I | M] · x) = A · x
+  -- S⁻¹ · ([I | M] · x) = A · x
   pub products : (x : Vector) (i : ℕ) → i < r → times r A (times (r + k) (systematic r M) x) i ≡ times (r + k) A x i
-  -- what S takes to A · x is [I | M] · x
+  -- what S⁻¹ takes to A · x is [I | M] · x
   pub bodies : (b x : Vector) → ((i : ℕ) → i < r → times r A b i ≡ times (r + k) A x i) → (i : ℕ) → i < r → b i ≡ times (r + k) (systematic r M) x i
-  -- M is the only matrix with S · [I | M] = A
+  -- M is the only matrix with S⁻¹ · [I | M] = A
   pub only : (N : Matrix) → Back r (r + k) A (systematic r N) → Same r k M N
 
 -- the first n columns of A select to column n: it is a sum of earlier columns
@@ -76,7 +76,7 @@ pub data Ranked (r : ℕ) (A : Matrix) : ℕ → ℕ → Type 0 where
 
 -- The laws, over all matrices A of r rows and n columns.
 
--- S · (B · x) = A · x
+-- S⁻¹ · (B · x) = A · x
 abbrev pub Product-back : Type 0
 Product-back =
     (r n : ℕ) (A B : Matrix) → Reduced r n A B
@@ -88,11 +88,11 @@ Column-back = (r n : ℕ) (A B : Matrix) → Reduced r n A B → Back r n A B
 abbrev pub Injective : Type 0
 Injective = (r n : ℕ) (A B : Matrix) → Reduced r n A B → Independent r A
 
--- B is the only matrix whose columns S takes to those of A, and so the only one of this form with A's kernel
+-- B is the only matrix whose columns S⁻¹ takes to those of A, and so the only one of this form with A's kernel
 abbrev pub Only-one : Type 0
 Only-one = (r n : ℕ) (A B C : Matrix) → Reduced r n A B → Back r n A C → Same r n B C
 
--- if S takes a vector to A · x, the vector is B · x
+-- if S⁻¹ takes a vector to A · x, the vector is B · x
 abbrev pub Only-body : Type 0
 Only-body =
     (r n : ℕ) (A B : Matrix) → Reduced r n A B → (b x : Vector)
