@@ -1,5 +1,5 @@
 -- Rows of bytes as rows of bits.
-use mathlib.Core.Path.{_≡_, refl, _∙_}
+use mathlib.Core.Path.{_≡_, _∙_}
 use mathlib.Core.Logic.{inl, inr}
 use mathlib.Core.List.{List}
 use Prim.Native.Nat.{ℕ, _+_, _*_, _/_, _%_, _<_, _≤_}
@@ -50,9 +50,6 @@ added-row w from into xs ys h = (others, sum) where
       (bit-xor (getD xs (into * w + j / 8) 0) (getD xs (from * w + j / 8) 0) (j % 8))
 
 -- a loop that copies some columns of one row after another
-pub copied-none : (w s skip : ℕ) (xs ys : List ℕ) → Columns-copied w s skip 0 xs ys ys
-copied-none w s skip xs ys = record { columns = λ i j l m. absurd (omega arith); rest = λ k l. refl }
-
 pub copied-more :
     (w s skip r : ℕ) (xs ys zs us : List ℕ) → Copied s (r * w + skip) (r * s) xs zs us → Columns-copied w s skip r xs ys zs
     → Columns-copied w s skip (r + 1) xs ys us

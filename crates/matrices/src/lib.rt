@@ -172,12 +172,10 @@ pub fn reduce(m: &mut [u8], width: usize, rows: usize) -> bool
     true
 }
 
-// The number of columns that are no sum of earlier ones. What `m` holds then is of no use.
-pub fn rank(m: &mut [u8], width: usize, rows: usize) -> usize
+// The number of columns that get a pivot: they are no sum of earlier ones.
+fn count_pivots(m: &mut [u8], width: usize, rows: usize) -> usize
     requires { ⌜ rows * width ≤ length (now m) ⌝ ∗ ⌜ 8 * width < 2 ^ 63 ⌝ }
-    ensures value { λ r. ⌜ Ranked rows (matrix width (now (m .entry))) (8 * width) r ⌝ }
-    ensures only { λ r. ⌜ ((k : ℕ) → Ranked rows (matrix width (now (m .entry))) (8 * width) k → k ≡ r) ⌝ }
-    ensures square { λ r. ⌜ (rows ≡ 8 * width → eqb r rows ≡ independent rows (matrix width (now (m .entry)))) ⌝ }
+    ensures { λ r. ⌜ Ranked rows (matrix width (now (m .entry))) (8 * width) r ⌝ }
 {
     let mut k = 0;
     for c in 0..8 * width {
@@ -186,6 +184,16 @@ pub fn rank(m: &mut [u8], width: usize, rows: usize) -> usize
         }
     }
     k
+}
+
+// The rank: the number of columns that are no sum of earlier ones. What `m` holds then is of no use.
+pub fn rank(m: &mut [u8], width: usize, rows: usize) -> usize
+    requires { ⌜ rows * width ≤ length (now m) ⌝ ∗ ⌜ 8 * width < 2 ^ 63 ⌝ }
+    ensures value { λ r. ⌜ Ranked rows (matrix width (now (m .entry))) (8 * width) r ⌝ }
+    ensures only { λ r. ⌜ ((k : ℕ) → Ranked rows (matrix width (now (m .entry))) (8 * width) k → k ≡ r) ⌝ }
+    ensures square { λ r. ⌜ (rows ≡ 8 * width → eqb r rows ≡ independent rows (matrix width (now (m .entry)))) ⌝ }
+{
+    count_pivots(m, width, rows)
 }
 
 // Whether a square matrix of 8 * front rows has an inverse: its columns are independent. What `m`
@@ -212,8 +220,8 @@ pub fn copy_columns(m: &[u8], width: usize, rows: usize, skip: usize, out: &mut 
     requires { ⌜ rows * width ≤ length (now m) ⌝ ∗ ⌜ skip + some ≤ width ⌝ ∗ ⌜ rows * some ≤ length (now out) ⌝ }
     ensures { λ _. ⌜ Columns-copied width some skip rows (now (m .entry)) (now (out .entry)) (now (out .exit)) ⌝ }
 {
-    for i in 0..rows {
-        copy_part(m, i * width + skip, out, i * some, some);
+    for row in 0..rows {
+        copy_part(m, row * width + skip, out, row * some, some);
     }
 }
 

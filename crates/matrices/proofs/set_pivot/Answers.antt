@@ -12,7 +12,7 @@ add-row-requires c κs =
         row-within (c .args .width) (c .args .rows) (c .args .p) (c .args .m .now) (omega arith) (omega arith),
         row-within (c .args .width) (c .args .rows) (c .args .k) (c .args .m .now) (omega arith) (omega arith),
       );
-      other = c .if-p-k .taken;
+      other = omega arith;
     }
 
 pub returns-then-p-k : need.returns-then-p-k
