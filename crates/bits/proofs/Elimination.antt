@@ -7,10 +7,10 @@ use native.Mathlib.Omega.{arith}
 use lib.Dec.{eqb}
 use Rattle.std.proofs.shelf.Tests.{cases-eq, cases-lt, eq-eqb, ne-eqb}
 use Rattle.bits.specs.Vectors.{_⊕_, Matrix}
-use Rattle.bits.specs.Kernels.{Same, SameKernel, Unit-columns, Reduced, Dependent}
+use Rattle.bits.specs.Kernels.{Same, SameKernel, Unit-columns, Dependent}
 use Rattle.bits.specs.Elimination.{Added, Low-rows, Kept, Pivoted, Settled}
 use Rattle.bits.proofs.Sums.{xor-zero}
-use Rattle.bits.proofs.Rows.{added-keeps, keeps-refl, keeps-trans}
+use Rattle.bits.proofs.Rows.{added-keeps, keeps-trans}
 use Rattle.bits.proofs.Reduction.{no-pivot}
 
 -- Before column c: B has the kernel of A, and its first c columns are those of the unit matrix.
@@ -18,14 +18,11 @@ pub record Part-done (r n c : ℕ) (A B : Matrix) : Type 0 where
   pub kernel : SameKernel r n A B
   pub units : Unit-columns r c B
 
--- Before row i: column c has a one in row k, and zeros in the rows below i but k.
+-- Before row i: column c has a one in row k, and zeros in the rows before i but k.
 pub record Cleared (r n k c i : ℕ) (B C : Matrix) : Type 0 where
   pub kept : Kept r n c B C
   pub one : C k c ≡ true
   pub none : (l : ℕ) → l < i → (l ≡ k → ⊥) → C l c ≡ false
-
-pub kept-refl : (r n c : ℕ) (B : Matrix) → Kept r n c B B
-kept-refl r n c B = record { kernel = keeps-refl r n B; columns = λ i j l m. refl }
 
 pub kept-trans : (r n c : ℕ) (B C D : Matrix) → Kept r n c B C → Kept r n c C D → Kept r n c B D
 kept-trans r n c B C D h g =
@@ -52,9 +49,6 @@ added-kept r n k c from into B C ln lk lf li ne low a =
             | inr d ↦ a .0 i j (omega arith) d
           ]
 
-pub pivot-there : (r n k c : ℕ) (B : Matrix) → B k c ≡ true → Pivoted r n k c B B
-pivot-there r n k c B e = record { kept = kept-refl r n c B; one = e }
-
 pub pivot-added :
     (r n k c p : ℕ) (B C : Matrix) → c < n → k < p → p < r → Low-rows r k c B → B k c ≡ false → B p c ≡ true
     → Added n p k B C → Pivoted r n k c B C
@@ -63,9 +57,6 @@ pivot-added r n k c p B C ln lp lr low nought unit a =
       kept = added-kept r n k c p k B C (omega arith) (omega arith) lr (omega arith) (omega arith) low a;
       one = a .1 c ln ∙ rw (nought, unit);
     }
-
-pub cleared-none : (r n k c : ℕ) (B : Matrix) → B k c ≡ true → Cleared r n k c 0 B B
-cleared-none r n k c B e = record { kept = kept-refl r n c B; one = e; none = λ l m d. absurd (omega arith) }
 
 -- a row that has 0 there, or is row k
 pub cleared-skip :
@@ -107,12 +98,6 @@ settled-after r n k c B C D h g = record { kept = kept-trans r n c B C D h (g .k
 
 -- ---- the elimination to [I | M]
 
-pub done-none : (r n : ℕ) (A : Matrix) → Part-done r n 0 A A
-done-none r n A = record { kernel = keeps-refl r n A; units = λ i j l m. absurd (omega arith) }
-
-pub done-low : (r n c : ℕ) (A B : Matrix) → Part-done r n c A B → Low-rows r c c B
-done-low r n c A B h i j l m p = h .units i j m p ∙ ne-eqb i j (omega arith)
-
 pub done-more : (r n c : ℕ) (A B C : Matrix) → Part-done r n c A B → Settled r n c c B C → Part-done r n (c + 1) A C
 done-more r n c A B C h g =
     record { kernel = keeps-trans r n A B C (h .kernel) (g .kept .kernel); units = units } where
@@ -122,9 +107,6 @@ done-more r n c A B C h g =
             | inl p ↦ g .kept .columns i j l p ∙ h .units i j l p
             | inr p ↦ let q : j ≡ c = omega arith in rw q (g .column i l)
           ]
-
-pub done-all : (r n : ℕ) (A B : Matrix) → r ≤ n → Part-done r n r A B → Reduced r n A B
-done-all r n A B l h = (l, (h .kernel, h .units))
 
 pub done-stuck :
     (r n c : ℕ) (A B : Matrix) → r ≤ n → c < r → Part-done r n c A B → ((i : ℕ) → c ≤ i → i < r → B i c ≡ false) → Dependent r A

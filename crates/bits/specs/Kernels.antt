@@ -111,6 +111,10 @@ Not-both = (r : ℕ) (A : Matrix) → Dependent r A → Independent r A → ⊥
 abbrev pub Decides : Type 0
 Decides = (r : ℕ) (A : Matrix) → (Independent r A → independent r A ≡ true) × (Dependent r A → independent r A ≡ false)
 
+-- and looks at the first r rows and columns alone
+abbrev pub Front-decides : Type 0
+Front-decides = (r : ℕ) (A B : Matrix) → Same r r A B → independent r A ≡ independent r B
+
 -- the rank is one number; it is the number of columns exactly if they are independent
 abbrev pub Rank-once : Type 0
 Rank-once = (r n k l : ℕ) (A : Matrix) → Ranked r A n k → Ranked r A n l → k ≡ l

@@ -4,7 +4,7 @@ ghost use mathlib.Core.Path.{_≡_};
 ghost use Prim.Native.Nat.{ℕ, _/_, _%_, _<_};
 ghost use lib.ListN.{length};
 ghost use Rattle.bits.specs.Packed.{powerOf, vector, Bit-added};
-ghost use Rattle.bits.specs.Kernels.{Product-back, Column-back, Injective, Only-one, Only-body, No-pivot, Not-both, Decides, Rank-once, Full-rank, Small-rank};
+ghost use Rattle.bits.specs.Kernels.{Product-back, Column-back, Injective, Only-one, Only-body, No-pivot, Not-both, Decides, Front-decides, Rank-once, Full-rank, Small-rank};
 
 // The power of two that is the weight of bit j in its byte.
 fn power(j: usize) -> u32
@@ -46,6 +46,7 @@ pub fn reduction_stands() -> u8
 pub fn rank_stands() -> u8
     ensures differ { λ _. ⌜ Not-both ⌝ }
     ensures decided { λ _. ⌜ Decides ⌝ }
+    ensures front { λ _. ⌜ Front-decides ⌝ }
     ensures once { λ _. ⌜ Rank-once ⌝ }
     ensures full { λ _. ⌜ Full-rank ⌝ }
     ensures small { λ _. ⌜ Small-rank ⌝ }

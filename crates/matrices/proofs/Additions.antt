@@ -1,5 +1,5 @@
 -- One addition of bytes after another.
-use mathlib.Core.Path.{_≡_, refl, sym, _∙_}
+use mathlib.Core.Path.{_≡_, sym, _∙_}
 use mathlib.Core.Logic.{inl, inr}
 use mathlib.Core.List.{List}
 use Prim.Native.Nat.{ℕ, _+_, _-_, _<_, _≤_}
@@ -13,9 +13,6 @@ use Rattle.matrices.specs.Rows.{Apart, Summed}
 
 pub apart-less : (n k a b : ℕ) → k ≤ n → Apart n a b → Apart k a b
 apart-less n k a b l h = elim h [ inl p ↦ inl (omega arith) | inr p ↦ inr (omega arith) ]
-
-pub summed-none : (into from : ℕ) (xs : List ℕ) → Summed 0 into from xs xs
-summed-none into from xs = record { done = λ k l. absurd (omega arith); before = λ k l. refl; after = λ k l. refl }
 
 pub summed-join :
     (n k i into from : ℕ) (xs ys zs : List ℕ) → n ≡ k + i → Apart n into from → Summed k into from xs ys

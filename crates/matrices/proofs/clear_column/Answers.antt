@@ -1,7 +1,7 @@
 use mathlib.Core.Path.{_≡_, sym}
 use Prim.Native.Nat.{_*_}
 use native.Mathlib.Omega.{arith}
-use Rattle.bits.proofs.Elimination.{cleared-none, cleared-skip, cleared-added, cleared-all}
+use Rattle.bits.proofs.Elimination.{cleared-skip, cleared-added, cleared-all}
 use Rattle.bits.specs.Packed.{matrix}
 use Rattle.matrices.proofs.Rows.{row-within, entry-within}
 use Rattle.matrices.proofs.clear_column.Needs as need
@@ -20,9 +20,6 @@ add-row-requires c κs =
       );
       other = omega arith;
     }
-
-pub loop-i-holds : need.loop-i-holds
-loop-i-holds c = cleared-none (c .args .rows) (8 * c .args .width) (c .args .k) (c .args .c) (matrix (c .args .width) (c .args .m .now)) (c .pre .one)
 
 pub loop-i-again : need.loop-i-again
 loop-i-again c =
