@@ -36,7 +36,7 @@ pub record Copied (n from to : ℕ) (xs ys zs : List ℕ) : Type 0 where
   pub before : (k : ℕ) → k < to → getD zs k 0 ≡ getD ys k 0
   pub after : (k : ℕ) → to + n ≤ k → getD zs k 0 ≡ getD ys k 0
 
--- the first r rows of zs, of s bytes, are those of xs, of w bytes, without the first bytes `skip`; the bytes past them are those of ys
+-- each of the first r rows of zs has the s bytes from `skip` on of the same row of xs, of w bytes; past them are the bytes of ys
 pub record Columns-copied (w s skip r : ℕ) (xs ys zs : List ℕ) : Type 0 where
   pub columns : (i j : ℕ) → i < r → j < 8 * s → matrix s zs i j ≡ matrix w xs i (8 * skip + j)
   pub rest : (k : ℕ) → r * s ≤ k → getD zs k 0 ≡ getD ys k 0
