@@ -2,3 +2,9 @@ pub mod Tried
 pub mod Sums
 pub mod Places
 pub mod Packing
+pub mod Selections
+pub mod Rows
+pub mod Reduction
+pub mod Elimination
+pub mod Rank
+pub mod Decision

@@ -1,2 +1,4 @@
 pub mod Vectors
 pub mod Packed
+pub mod Kernels
+pub mod Elimination

@@ -1,9 +1,10 @@
-// Bits in packed vectors. The two functions here and what they cite are all that knows where in
-// its byte a bit lies.
+// Bits in packed vectors, and the linear algebra over the field of two elements. The functions `bit`
+// and `add_bit` and what they cite are all that knows where in its byte a bit lies.
 ghost use mathlib.Core.Path.{_≡_};
 ghost use Prim.Native.Nat.{ℕ, _/_, _%_, _<_};
 ghost use lib.ListN.{length};
 ghost use Rattle.bits.specs.Packed.{powerOf, vector, Bit-added};
+ghost use Rattle.bits.specs.Kernels.{Product-back, Column-back, Injective, Only-one, Only-body, No-pivot, Not-both, Decides, Front-decides, Rank-once, Full-rank, Small-rank};
 
 // The power of two that is the weight of bit j in its byte.
 fn power(j: usize) -> u32
@@ -27,4 +28,28 @@ pub fn add_bit(v: &mut [u8], j: usize, b: bool)
     ensures { λ _. ⌜ Bit-added j b (now (v .entry)) (now (v .exit)) ⌝ }
 {
     v[j / 8] ^= (b as u8) << power(j);
+}
+
+// What a matrix that begins with the unit matrix says of another with the same kernel.
+pub fn reduction_stands() -> u8
+    ensures product { λ _. ⌜ Product-back ⌝ }
+    ensures column { λ _. ⌜ Column-back ⌝ }
+    ensures injective { λ _. ⌜ Injective ⌝ }
+    ensures only { λ _. ⌜ Only-one ⌝ }
+    ensures body { λ _. ⌜ Only-body ⌝ }
+    ensures dependent { λ _. ⌜ No-pivot ⌝ }
+{
+    0
+}
+
+// The columns of a square matrix are dependent or independent and not both, and its rank says which.
+pub fn rank_stands() -> u8
+    ensures differ { λ _. ⌜ Not-both ⌝ }
+    ensures decided { λ _. ⌜ Decides ⌝ }
+    ensures front { λ _. ⌜ Front-decides ⌝ }
+    ensures once { λ _. ⌜ Rank-once ⌝ }
+    ensures full { λ _. ⌜ Full-rank ⌝ }
+    ensures small { λ _. ⌜ Small-rank ⌝ }
+{
+    0
 }

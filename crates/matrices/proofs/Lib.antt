@@ -1,2 +1,4 @@
 pub mod Bytes
 pub mod Parts
+pub mod Rows
+pub mod Additions
