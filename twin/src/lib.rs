@@ -17,9 +17,11 @@
 pub mod bits;
 pub mod cases;
 pub mod fault;
+pub mod field;
 pub mod hash;
 pub mod json;
 pub mod level;
+pub mod polynomial;
 pub mod random;
 pub mod seal;
 pub mod sha2;
