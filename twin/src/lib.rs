@@ -21,6 +21,7 @@ pub mod field;
 pub mod hash;
 pub mod json;
 pub mod level;
+pub mod matrix;
 pub mod polynomial;
 pub mod random;
 pub mod seal;
