@@ -1,4 +1,4 @@
-//! A second implementation of ticket sealing, written from the pages in `docs/`
+//! A second implementation of key making and ticket sealing, written from the pages in `docs/`
 //! and from nothing of the product.
 //!
 //! `cargo test --lib` tries the twin alone. The tests in `tests/` and the
@@ -16,6 +16,7 @@
 
 pub mod bits;
 pub mod cases;
+pub mod code;
 pub mod fault;
 pub mod field;
 pub mod hash;
