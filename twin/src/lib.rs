@@ -16,12 +16,14 @@
 
 pub mod bits;
 pub mod cases;
+pub mod checks;
 pub mod code;
 pub mod fault;
 pub mod field;
 pub mod hash;
 pub mod json;
 pub mod level;
+pub mod make;
 pub mod matrix;
 pub mod polynomial;
 pub mod random;
