@@ -56,7 +56,7 @@ impl ParityCheck {
     pub fn usable(&self, seed: &Seed) -> Option<Matrix> {
         let columns = self.mixed_columns(seed);
         let left = Matrix::of_elements(self.m, &columns[..self.m * columns[0].len()]);
-        left.clone().reduce().then_some(left)
+        left.clone().triangulate().then_some(left)
     }
 
     fn mixed_columns(&self, seed: &Seed) -> Vec<&[u16]> {

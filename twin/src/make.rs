@@ -38,7 +38,8 @@ pub fn make(order: &Order, public_key: &mut [u8], secret_key: &mut [u8]) -> Resu
         .find_map(|seed| parity_check.usable(seed).map(|left| (seed, left)))
         .ok_or(Fault::new(6, Layer::Key, mixing_seeds.len()))?;
     let mut echelon = parity_check.mixed(mixing_seed);
-    assert!(echelon.reduce(), "the seed is usable");
+    assert!(echelon.triangulate(), "the seed is usable");
+    echelon.reduce_triangle();
     let rows = level.rows();
     public_key.copy_from_slice(&echelon.packed(rows..level.n));
     let elements = [&code.support[..], &code.g[..level.t]].concat();

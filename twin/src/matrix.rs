@@ -31,27 +31,28 @@ impl Matrix {
         Matrix { rows }
     }
 
-    /// Makes the first columns, as many as there are rows, the unit matrix by row
-    /// operations. Says whether it could: if they are dependent, it stops on the way.
-    pub fn reduce(&mut self) -> bool {
-        for j in 0..self.rows.len() {
-            let (at, weight) = (j / 64, 1 << (63 - j % 64));
-            let Some(found) = (j..self.rows.len()).find(|&r| self.rows[r][at] & weight != 0) else {
-                return false;
-            };
-            self.rows.swap(j, found);
-            let (above, rest) = self.rows.split_at_mut(j);
-            let (pivot, below) = rest.split_first_mut().expect("row j");
-            for row in above.iter_mut().chain(below) {
-                if row[at] & weight != 0 {
-                    // Before word `at` the pivot row is zero.
-                    for (word, other) in row[at..].iter_mut().zip(&pivot[at..]) {
-                        *word ^= other;
-                    }
-                }
+    /// Whether the first columns, as many as there are rows, are independent. If so,
+    /// row operations have made them a triangle with ones on the diagonal and zeros
+    /// below; if not, they stopped on the way.
+    pub fn triangulate(&mut self) -> bool {
+        (0..self.rows.len()).all(|j| {
+            let found = (j..self.rows.len()).find(|&r| has_bit(&self.rows[r], j));
+            if let Some(r) = found {
+                self.rows.swap(j, r);
+                let (rest, below) = self.rows.split_at_mut(j + 1);
+                clear(below, &rest[j], j);
             }
+            found.is_some()
+        })
+    }
+
+    /// Makes the triangle the unit matrix: with that, the whole is the reduced row
+    /// echelon form.
+    pub fn reduce_triangle(&mut self) {
+        for j in (0..self.rows.len()).rev() {
+            let (above, rest) = self.rows.split_at_mut(j);
+            clear(above, &rest[0], j);
         }
-        true
     }
 
     /// These columns, row after row; the range begins and ends at whole bytes.
@@ -63,6 +64,20 @@ impl Matrix {
             packed.extend_from_slice(&row[bytes.clone()]);
         }
         packed
+    }
+}
+
+fn has_bit(row: &[u64], j: usize) -> bool {
+    row[j / 64] >> (63 - j % 64) & 1 == 1
+}
+
+/// Adds the pivot row, which is zero before its bit j, to each row that has this bit.
+fn clear(rows: &mut [Vec<u64>], pivot: &[u64], j: usize) {
+    let pivot = &pivot[j / 64..];
+    for row in rows.iter_mut().filter(|row| has_bit(row, j)) {
+        for (word, other) in row[j / 64..].iter_mut().zip(pivot) {
+            *word ^= other;
+        }
     }
 }
 
@@ -100,9 +115,10 @@ mod tests {
             let size = [8, 24, 64, 72][round % 4];
             let width = size + 8 * random.below(20);
             let (columns, mut matrix) = random_matrix(size / M, width, &mut random);
-            if !matrix.reduce() {
+            if !matrix.triangulate() {
                 continue;
             }
+            matrix.reduce_triangle();
             reduced += 1;
             let packed = matrix.packed(0..width);
             for (j, column) in columns.iter().enumerate() {
@@ -124,7 +140,7 @@ mod tests {
             let (mut columns, _) = random_matrix(9, 100, &mut random);
             let [a, b, c] = [0, 1, 2].map(|third| 24 * third + random.below(24));
             columns[c] = columns[a].iter().zip(&columns[b]).map(|(a, b)| a ^ b).collect();
-            assert!(!of_columns(&columns).reduce());
+            assert!(!of_columns(&columns).triangulate());
         }
     }
 
