@@ -20,14 +20,27 @@ fn weight(j: usize) -> u8 {
     0x80 >> (j % 8)
 }
 
+/// A packed matrix, of as many columns as the vector has bits, times the vector.
+pub fn times(matrix: &[u8], vector: &[u8]) -> Vec<u8> {
+    let rows = matrix.chunks_exact(vector.len());
+    let mut product = vec![0; rows.len().div_ceil(8)];
+    let vector = words(vector);
+    for (r, row) in rows.enumerate() {
+        if inner_product(row, &vector) {
+            flip(&mut product, r);
+        }
+    }
+    product
+}
+
 /// The same bits in 64-bit words, the last one filled up with zeros. Words of
 /// two vectors fit each other; a bit's place within its word is of no account.
-pub fn words(vector: &[u8]) -> Vec<u64> {
+fn words(vector: &[u8]) -> Vec<u64> {
     vector.chunks(8).map(word).collect()
 }
 
 /// The inner product, modulo 2, of a packed row with a vector in words.
-pub fn inner_product(row: &[u8], vector: &[u64]) -> bool {
+fn inner_product(row: &[u8], vector: &[u64]) -> bool {
     let whole = row.chunks_exact(8);
     let rest = word(whole.remainder());
     let tail = vector.get(row.len() / 8).map_or(0, |last| rest & last);
@@ -60,10 +73,14 @@ mod tests {
     #[test]
     fn words_multiply_like_bits() {
         let mut random = Random::new(1);
-        for length in 0..40 {
-            let (row, vector) = (random.bytes(length), random.bytes(length));
-            let ones = (0..8 * length).filter(|&j| bit(&row, j) && bit(&vector, j)).count();
-            assert_eq!(inner_product(&row, &words(&vector)), ones % 2 == 1, "{length} bytes");
+        for length in 1..40 {
+            let (matrix, vector) = (random.bytes(16 * length), random.bytes(length));
+            let product = times(&matrix, &vector);
+            assert_eq!(product.len(), 2);
+            for (r, row) in matrix.chunks(length).enumerate() {
+                let ones = (0..8 * length).filter(|&j| bit(row, j) && bit(&vector, j)).count();
+                assert_eq!(bit(&product, r), ones % 2 == 1, "row {r} of {length} bytes");
+            }
         }
     }
 }

@@ -1,5 +1,7 @@
 //! The levels and their lengths.
 
+use crate::field::Field;
+
 /// Work memory, counted in the items of its three slices.
 #[derive(Clone, Copy, Debug, PartialEq, Eq)]
 pub struct Room {
@@ -25,6 +27,8 @@ pub const SEED: usize = 32;
 pub const HEAD: usize = 32;
 pub const KEY: usize = 32;
 pub const LABEL: usize = 8;
+/// The most mixing seeds that a make takes.
+pub const MIXING_SEEDS: usize = 64;
 
 const SMALL: Room = Room { bytes: 4_096, places: 512, positions: 512 };
 const LARGE: Room = Room { bytes: 2_097_152, places: 16_384, positions: 16_384 };
@@ -39,6 +43,10 @@ pub const LEVELS: [Level; 4] = [
 impl Level {
     pub fn named(name: &[u8]) -> Option<&'static Level> {
         LEVELS.iter().find(|level| level.name.as_bytes() == name)
+    }
+
+    pub fn field(&self) -> &'static Field {
+        Field::with_bits(self.m)
     }
 
     /// Rows of the matrix, and bits of a body.

@@ -1,4 +1,4 @@
-//! A second implementation of ticket sealing, written from the pages in `docs/`
+//! A second implementation of key making and ticket sealing, written from the pages in `docs/`
 //! and from nothing of the product.
 //!
 //! `cargo test --lib` tries the twin alone. The tests in `tests/` and the
@@ -16,10 +16,16 @@
 
 pub mod bits;
 pub mod cases;
+pub mod checks;
+pub mod code;
 pub mod fault;
+pub mod field;
 pub mod hash;
 pub mod json;
 pub mod level;
+pub mod make;
+pub mod matrix;
+pub mod polynomial;
 pub mod random;
 pub mod seal;
 pub mod sha2;

@@ -1,6 +1,7 @@
 //! Sealing a ticket.
 
-use crate::bits::{flip, inner_product, words};
+use crate::bits::times;
+use crate::checks;
 use crate::fault::{Fault, Layer};
 use crate::hash::Hash;
 use crate::level::{Level, Room, HEAD, KEY, SEED};
@@ -22,9 +23,14 @@ pub struct Order<'a> {
 
 /// Writes ticket and key, or refuses and leaves both as they are.
 pub fn seal(order: &Order, ticket: &mut [u8], key: &mut [u8]) -> Result<(), Fault> {
-    let level = Level::named(order.level).ok_or(Fault::new(1, Layer::Call, 0))?;
-    check_lengths(level, order, ticket.len(), key.len())?;
-    check_room(level, order.room)?;
+    let level = checks::level(order.level)?;
+    checks::lengths(&[
+        order.public_key.len() == level.public_key(),
+        order.ticket_seed.len() == SEED,
+        ticket.len() == level.ticket(),
+        key.len() == KEY,
+    ])?;
+    checks::room(level, order.room)?;
     if order.hash.capacity() < level.capacity() {
         return Err(Fault::new(5, Layer::Hash, 0));
     }
@@ -36,31 +42,6 @@ pub fn seal(order: &Order, ticket: &mut [u8], key: &mut [u8]) -> Result<(), Faul
     ticket[..HEAD].copy_from_slice(&head);
     ticket[HEAD..].copy_from_slice(&body);
     Ok(())
-}
-
-fn check_lengths(level: &Level, order: &Order, ticket: usize, key: usize) -> Result<(), Fault> {
-    let lengths = [
-        (order.public_key.len(), level.public_key()),
-        (order.ticket_seed.len(), SEED),
-        (ticket, level.ticket()),
-        (key, KEY),
-    ];
-    match lengths.iter().position(|(given, right)| given != right) {
-        Some(buffer) => Err(Fault::new(3, Layer::Call, buffer)),
-        None => Ok(()),
-    }
-}
-
-fn check_room(level: &Level, room: Room) -> Result<(), Fault> {
-    let sizes = [
-        (room.bytes, level.room.bytes),
-        (room.places, level.room.places),
-        (room.positions, level.room.positions),
-    ];
-    match sizes.iter().position(|(given, least)| given < least) {
-        Some(slice) => Err(Fault::new(4, Layer::Call, slice)),
-        None => Ok(()),
-    }
 }
 
 /// The head of the ticket that seals this error vector.
@@ -77,14 +58,8 @@ pub fn ticket_key(hash: Hash, vector: &[u8], head: &[u8], body: &[u8]) -> Result
 fn body(level: &Level, public_key: &[u8], vector: &[u8], head: &Seed) -> Vec<u8> {
     let permuted = perm(&order(level.n, head), vector);
     let (left, right) = permuted.split_at(level.body());
-    let mut body = left.to_vec();
-    let right = words(right);
-    for (r, row) in public_key.chunks_exact(level.row()).enumerate() {
-        if inner_product(row, &right) {
-            flip(&mut body, r);
-        }
-    }
-    body
+    let product = times(public_key, right);
+    left.iter().zip(product).map(|(bits, sums)| bits ^ sums).collect()
 }
 
 #[cfg(test)]
