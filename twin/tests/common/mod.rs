@@ -1,6 +1,5 @@
 //! What the integration tests share.
 
-pub mod data;
 #[path = "../../src/product.rs"]
 pub mod product;
 
