@@ -1,7 +1,7 @@
 // Products, inverses and square roots by logarithms to the base z, whose powers are all elements but
 // zero.
 ghost use mathlib.Core.Path.{_≡_};
-ghost use Prim.Native.Nat.{ℕ, _<_};
+ghost use Prim.Native.Nat.{_%_, _<_};
 ghost use lib.ListN.{getD};
 ghost use Rattle.field64.specs.Tables.{mul64, inv64, root64, powers, logs};
 
@@ -140,12 +140,11 @@ const LOGS: [u16; 64] = [
     58,
 ];
 
-// z^i.
-pub(crate) fn power(i: usize) -> u16
-    requires { ⌜ i < 63 ⌝ }
-    ensures { λ r. ⌜ r ≡ getD powers i 0 ⌝ }
+// z^n, which is z^(n + 63).
+pub(crate) fn power(n: usize) -> u16
+    ensures { λ r. ⌜ r ≡ getD powers (n % 63) 0 ⌝ }
 {
-    POWERS[i]
+    POWERS[n % 63]
 }
 
 // The logarithm of an element.
@@ -160,30 +159,33 @@ pub(crate) fn log(a: u16) -> u16
 // The product.
 pub(crate) fn times(a: u16, b: u16) -> u16
     requires { ⌜ a < 64 ⌝ ∗ ⌜ b < 64 ⌝ }
-    ensures { λ r. ⌜ r ≡ mul64 a b ⌝ }
+    ensures is { λ r. ⌜ r ≡ mul64 a b ⌝ }
+    ensures below { λ r. ⌜ r < 64 ⌝ }
 {
     if a == 0 || b == 0 {
         return 0;
     }
-    power((log(a) as usize + log(b) as usize) % 63)
+    power(log(a) as usize + log(b) as usize)
 }
 
 // The inverse of an element that is not zero.
 pub(crate) fn inverse_of(a: u16) -> u16
     requires { ⌜ a < 64 ⌝ }
-    ensures { λ r. ⌜ r ≡ inv64 a ⌝ }
+    ensures is { λ r. ⌜ r ≡ inv64 a ⌝ }
+    ensures below { λ r. ⌜ r < 64 ⌝ }
 {
-    power((63 - log(a) as usize) % 63)
+    power(63 - log(a) as usize)
 }
 
 // The square root: half the logarithm, or half of it and 63 where it is odd.
 pub(crate) fn root_of(a: u16) -> u16
     requires { ⌜ a < 64 ⌝ }
-    ensures { λ r. ⌜ r ≡ root64 a ⌝ }
+    ensures is { λ r. ⌜ r ≡ root64 a ⌝ }
+    ensures below { λ r. ⌜ r < 64 ⌝ }
 {
     if a == 0 {
         return 0;
     }
     let l = log(a) as usize;
-    power((l + l % 2 * 63) / 2 % 63)
+    power((l + l % 2 * 63) / 2)
 }

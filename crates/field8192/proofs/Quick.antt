@@ -14,13 +14,12 @@ use Rattle.algebra.proofs.Every.{every, at}
 use Rattle.algebra.proofs.Linear.{xor-shl, bit-times, bit-of, low-bit, bit-below, Linear, plus, agree}
 use Rattle.field8192.specs.Product.{mul8192}
 use Rattle.field8192.specs.Folds.{carrylessBits, folded}
-use Rattle.field8192.proofs.Ring.{mul-left, mul-right, mul-reads}
+use Rattle.field8192.proofs.Ring.{mul-left, mul-right}
 
 high-linear : (k : ℕ) → Linear (λ t. t / 8192 * 2 ^ k)
 high-linear k a b = ap (λ (x : ℕ). x * 2 ^ k) (xor-shr a b 13) ∙ xor-shl k (a / 8192) (b / 8192)
 
 pub folded-linear : Linear folded
-unfolding folded
 folded-linear =
     plus (λ t. bitXor (bitXor (bitXor (t % 8192) (t / 8192)) (t / 8192 * 32)) (t / 8192 * 64)) (λ t. t / 8192 * 128)
     (plus (λ t. bitXor (bitXor (t % 8192) (t / 8192)) (t / 8192 * 32)) (λ t. t / 8192 * 64)
@@ -55,7 +54,7 @@ test : ℕ → ℕ → Bool
 test i j = eqb (quick (2 ^ i) (2 ^ j)) (mul8192 (2 ^ i) (2 ^ j))
 
 tested : T (every (λ i. every (λ j. test i j) 13) 13)
-unfolding test quick folded carrylessBits mul8192 timesBits timesZ
+unfolding test quick carrylessBits mul8192 timesBits timesZ
 tested = tt
 
 pub quick-is : (a b : ℕ) → a < 8192 → b < 8192 → quick a b ≡ mul8192 a b
@@ -89,21 +88,14 @@ carryless-below zero a b h l = lit< tt
 carryless-below (suc n) a b h l = xor-lt 25 (carrylessBits n a b) (b / 2 ^ n % 2 * (a * 2 ^ n)) (carryless-below n a b h (omega arith)) (bit-below (b / 2 ^ n % 2) (a * 2 ^ n) (2 ^ 25) (low-bit (b / 2 ^ n)) (wide a n h (omega arith)))
 
 pub folded-below : (t : ℕ) → t < 2 ^ 25 → folded t < 2 ^ 25
-unfolding folded
 folded-below t h =
     let m : t % 8192 < 8192 = mod-lt t (lit< tt) in
     xor-lt 25 _ _ (xor-lt 25 _ _ (xor-lt 25 _ _ (xor-lt 25 (t % 8192) (t / 8192) (omega arith) (omega arith)) (omega arith)) (omega arith)) (omega arith)
 
--- the bounds and the value of what the two folds and the product give, at factors cut to 13 bits
-cut : (a : ℕ) → bitAnd a 8191 < 8192
-cut a = mask-lt a 13
-
-cut-mul : (a b : ℕ) → mul8192 (bitAnd a 8191) (bitAnd b 8191) ≡ mul8192 a b
-cut-mul a b = ap₂ mul8192 (and-mask a 13) (and-mask b 13) ∙ sym (mul-reads a b)
-
-module _ (a b t u v : ℕ) (et : t ≡ carrylessBits 13 (bitAnd a 8191) (bitAnd b 8191)) where
+-- the bounds and the value of what the two folds and the product give
+module _ (a b t u v : ℕ) (ha : a < 8192) (hb : b < 8192) (et : t ≡ carrylessBits 13 a b) where
   pub first : t < 2 ^ 25
-  first = omega (arith, carryless-below 13 (bitAnd a 8191) (bitAnd b 8191) (cut a) (lit< tt))
+  first = omega (arith, carryless-below 13 a b ha (lit< tt))
 
   module _ (eu : u ≡ folded t) where
     pub second : u < 2 ^ 25
@@ -111,4 +103,4 @@ module _ (a b t u v : ℕ) (et : t ≡ carrylessBits 13 (bitAnd a 8191) (bitAnd 
 
     pub whole : v ≡ folded u → v ≡ mul8192 a b
     unfolding quick
-    whole ev = ev ∙ ap folded (eu ∙ ap folded et) ∙ quick-is (bitAnd a 8191) (bitAnd b 8191) (cut a) (cut b) ∙ cut-mul a b
+    whole ev = ev ∙ ap folded (eu ∙ ap folded et) ∙ quick-is a b ha hb

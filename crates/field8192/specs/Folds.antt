@@ -7,5 +7,6 @@ unfoldable pub carrylessBits : ℕ → ℕ → ℕ → ℕ
 carrylessBits zero a b = 0
 carrylessBits (suc n) a b = bitXor (carrylessBits n a b) (b / 2 ^ n % 2 * (a * 2 ^ n))
 
-unfoldable pub folded : ℕ → ℕ
+-- a number below 2^25 after z^13 = z^7 + z^6 + z^5 + 1
+abbrev pub folded : ℕ → ℕ
 folded t = bitXor (bitXor (bitXor (bitXor (t % 8192) (t / 8192)) (t / 8192 * 32)) (t / 8192 * 64)) (t / 8192 * 128)

@@ -5,11 +5,13 @@ ghost use Prim.Native.Nat.{_<_, _^_};
 ghost use Rattle.field8192.specs.Product.{mul8192, square8192, inv8192, root8192};
 ghost use Rattle.field8192.specs.Folds.{carrylessBits, folded};
 
-// The product. The masks change no element: they tell the compiler that its vectors may be narrow.
+// The product.
 pub(crate) fn times(a: u16, b: u16) -> u16
-    ensures { λ r. ⌜ r ≡ mul8192 a b ⌝ }
+    requires { ⌜ a < 8192 ⌝ ∗ ⌜ b < 8192 ⌝ }
+    ensures is { λ r. ⌜ r ≡ mul8192 a b ⌝ }
+    ensures below { λ r. ⌜ r < 8192 ⌝ }
 {
-    fold(fold(carryless((a & 8191) as u32, (b & 8191) as u32))) as u16
+    fold(fold(carryless(a as u32, b as u32))) as u16
 }
 
 // The product of polynomials, not yet reduced.
@@ -29,20 +31,24 @@ fn fold(t: u32) -> u32
     requires { ⌜ t < 2 ^ 25 ⌝ }
     ensures { λ r. ⌜ r ≡ folded t ⌝ }
 {
-    let h = t >> 13;
-    (t & 8191) ^ h ^ (h << 5) ^ (h << 6) ^ (h << 7)
+    let h = t / 8192;
+    t % 8192 ^ h ^ h * 32 ^ h * 64 ^ h * 128
 }
 
 // The square.
 fn square(a: u16) -> u16
-    ensures { λ r. ⌜ r ≡ square8192 a ⌝ }
+    requires { ⌜ a < 8192 ⌝ }
+    ensures is { λ r. ⌜ r ≡ square8192 a ⌝ }
+    ensures below { λ r. ⌜ r < 8192 ⌝ }
 {
     times(a, a)
 }
 
 // The inverse, a^8190: zero at zero.
 pub(crate) fn inverse_of(a: u16) -> u16
-    ensures { λ r. ⌜ r ≡ inv8192 a ⌝ }
+    requires { ⌜ a < 8192 ⌝ }
+    ensures is { λ r. ⌜ r ≡ inv8192 a ⌝ }
+    ensures below { λ r. ⌜ r < 8192 ⌝ }
 {
     let mut r = 1;
     for i in 0..12u8 {
@@ -53,7 +59,9 @@ pub(crate) fn inverse_of(a: u16) -> u16
 
 // The square root, a^4096.
 pub(crate) fn root_of(a: u16) -> u16
-    ensures { λ r. ⌜ r ≡ root8192 a ⌝ }
+    requires { ⌜ a < 8192 ⌝ }
+    ensures is { λ r. ⌜ r ≡ root8192 a ⌝ }
+    ensures below { λ r. ⌜ r < 8192 ⌝ }
 {
     let mut r = a;
     for i in 0..12u8 {

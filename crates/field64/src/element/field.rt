@@ -1,7 +1,7 @@
 // The field of 64 as a field of 2^6 elements.
 ghost use mathlib.Core.Path.{_≡_};
 ghost use Prim.Native.Nat.{_<_};
-ghost use Rattle.field64.specs.Model.{places64, ops64};
+ghost use Rattle.field64.specs.Model.{at64, places64, ops64};
 use super::E64;
 use crate::tables::inverse_of;
 use crate::tables::root_of;
@@ -10,6 +10,14 @@ use fields::degree::Six;
 use fields::degree::SixFixed;
 use fields::field::BinaryField;
 use fields::field::Field;
+
+// The element at a place.
+fn element(place: u16) -> E64
+    requires { ⌜ place < 64 ⌝ }
+    ensures { λ r. ⌜ r ≡ at64 place ⌝ }
+{
+    E64 { place }
+}
 
 pub impl Field for E64 as E64Field {
     type Degree = Six;
@@ -23,37 +31,31 @@ pub impl Field for E64 as E64Field {
     ghost places = { places64 };
 
     fn zero() -> E64 {
-        E64 { place: 0 }
+        element(0)
     }
 
     fn one() -> E64 {
-        E64 { place: 1 }
+        element(1)
     }
 
     fn sum(self, other: E64) -> E64 {
-        E64 {
-            place: self.place ^ other.place,
-        }
+        element(self.place ^ other.place)
     }
 
     fn product(self, other: E64) -> E64 {
-        E64 {
-            place: times(self.place, other.place),
-        }
+        element(times(self.place, other.place))
     }
 
     fn inverse(self) -> Option<E64> {
         if self.place == 0 {
             return None;
         }
-        Some(E64 {
-            place: inverse_of(self.place),
-        })
+        Some(element(inverse_of(self.place)))
     }
 
     fn from_place(place: u16) -> Option<E64> {
         if place < 64 {
-            Some(E64 { place })
+            Some(element(place))
         } else {
             None
         }
@@ -66,8 +68,6 @@ pub impl Field for E64 as E64Field {
 
 pub impl BinaryField for E64 as E64BinaryField {
     fn square_root(self) -> E64 {
-        E64 {
-            place: root_of(self.place),
-        }
+        element(root_of(self.place))
     }
 }

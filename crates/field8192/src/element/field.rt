@@ -1,7 +1,7 @@
 // The field of 8,192 as a field of 2^13 elements.
 ghost use mathlib.Core.Path.{_≡_};
 ghost use Prim.Native.Nat.{_<_};
-ghost use Rattle.field8192.specs.Model.{places8192, ops8192};
+ghost use Rattle.field8192.specs.Model.{at8192, places8192, ops8192};
 use super::E8192;
 use crate::shifts::inverse_of;
 use crate::shifts::root_of;
@@ -10,6 +10,14 @@ use fields::degree::Thirteen;
 use fields::degree::ThirteenFixed;
 use fields::field::BinaryField;
 use fields::field::Field;
+
+// The element at a place.
+fn element(place: u16) -> E8192
+    requires { ⌜ place < 8192 ⌝ }
+    ensures { λ r. ⌜ r ≡ at8192 place ⌝ }
+{
+    E8192 { place }
+}
 
 pub impl Field for E8192 as E8192Field {
     type Degree = Thirteen;
@@ -23,37 +31,31 @@ pub impl Field for E8192 as E8192Field {
     ghost places = { places8192 };
 
     fn zero() -> E8192 {
-        E8192 { place: 0 }
+        element(0)
     }
 
     fn one() -> E8192 {
-        E8192 { place: 1 }
+        element(1)
     }
 
     fn sum(self, other: E8192) -> E8192 {
-        E8192 {
-            place: self.place ^ other.place,
-        }
+        element(self.place ^ other.place)
     }
 
     fn product(self, other: E8192) -> E8192 {
-        E8192 {
-            place: times(self.place, other.place),
-        }
+        element(times(self.place, other.place))
     }
 
     fn inverse(self) -> Option<E8192> {
         if self.place == 0 {
             return None;
         }
-        Some(E8192 {
-            place: inverse_of(self.place),
-        })
+        Some(element(inverse_of(self.place)))
     }
 
     fn from_place(place: u16) -> Option<E8192> {
         if place < 8192 {
-            Some(E8192 { place })
+            Some(element(place))
         } else {
             None
         }
@@ -66,8 +68,6 @@ pub impl Field for E8192 as E8192Field {
 
 pub impl BinaryField for E8192 as E8192BinaryField {
     fn square_root(self) -> E8192 {
-        E8192 {
-            place: root_of(self.place),
-        }
+        element(root_of(self.place))
     }
 }

@@ -3,4 +3,4 @@ use Rattle.field8192.proofs.shifts.square.Needs as need
 
 pub returns : need.returns
 unfolding square8192
-returns c = c .times .ensures
+returns c = record { is = c .times .ensures .is; below = c .times .ensures .below }

@@ -1,16 +1,15 @@
-use mathlib.Core.Path.{sym, ap, ap₂, subst, _∙_}
-use Prim.Native.Nat.{ℕ, _<_}
-use Rattle.field8192.specs.Product.{mul8192}
-use Rattle.field8192.proofs.Powers.{root}
+use mathlib.Core.Path.{_≡_, refl, sym, ap, ap₂, _∙_}
 use Rattle.algebra.proofs.Numbers.{within-is}
-use Rattle.field8192.specs.Model.{at8192, same}
-use Rattle.field8192.proofs.Laws.{root-below}
+use Rattle.field8192.specs.Product.{mul8192, root8192}
+use Rattle.field8192.specs.Model.{at8192}
+use Rattle.field8192.proofs.Elements.{is-at}
+use Rattle.field8192.proofs.Powers.{root}
 use Rattle.field8192.proofs.element.field.E8192BinaryField.square_root.Needs as need
-
-pub ghost-result : need.ghost-result
-ghost-result c = (subst (λ (n : ℕ). n < 8192) (sym (c .root-of .ensures)) (root-below (c .args .self .place)), tt)
 
 pub returns : need.returns
 returns c =
-    same _ (c .args .self)
-    (ap (λ n. at8192 n .place) (ap₂ mul8192 (c .root-of .ensures) (c .root-of .ensures) ∙ root (c .args .self .place) (c .args .self .below)) ∙ within-is 8192 (c .args .self .place) (c .args .self .below))
+    let s = c .args .self in
+    let r : c .element .result .place ≡ root8192 (s .place) =
+    ap (λ x. x .place) (c .element .ensures) ∙ within-is 8192 (c .root-of .result) (c .root-of .ensures .below) ∙ c .root-of .ensures .is
+    in
+    ap at8192 (ap₂ mul8192 r r ∙ root (s .place) (s .below)) ∙ sym (is-at s (s .place) (s .below) refl)
