@@ -33,6 +33,19 @@ module _ {A : Type 0} {f : Ops A} (k : Laws f) {m : ℕ} (pl : Places A m) (z : 
       let e₄ = solve (poly-laws k) (coefs pl into ∷ mono f c 0 ∷ coefs pl (take j p) ∷ mono f a j ∷ []) ((v 0 ⊕ (v 1 ⊗ v 2)) ⊕ (v 1 ⊗ v 3)) (v 0 ⊕ (v 1 ⊗ (v 2 ⊕ v 3))) refl in
       cc
 
+  pub added-none : (p : Series A) → p ≡ poly f .add p (coefs pl [])
+  added-none p = let e = coefs-none k pl z in let s = solve (poly-laws k) (p ∷ []) (v 0) (v 0 ⊕ o) refl in cc
+
+  pub added-more : (into l p : List ℕ) (j w : ℕ) → j < length l → w ≡ pl .num (f .add (pl .at (getD l j 0)) (pl .at (getD p j 0)))
+      → coefs pl l ≡ poly f .add (coefs pl into) (coefs pl (take j p))
+      → coefs pl (set l j w) ≡ poly f .add (coefs pl into) (coefs pl (take (j + 1) p))
+  added-more into l p j w h e inv =
+      let a = pl .at (getD p j 0) in
+      let e₁ = write-add k pl l j w a h e in
+      let e₂ = take-more k pl z p j in
+      let e₃ = solve (poly-laws k) (coefs pl into ∷ coefs pl (take j p) ∷ mono f a j ∷ []) ((v 0 ⊕ v 1) ⊕ v 2) (v 0 ⊕ (v 1 ⊕ v 2)) refl in
+      cc
+
   pub product-none : (n : ℕ) (q : Series A) → coefs pl (replicate n 0) ≡ poly f .mul (coefs pl []) q
   product-none n q = let e₁ = coefs-zeros k pl z n in let e₂ = coefs-none k pl z in let e₃ = zero-mul (poly-laws k) q in cc
 

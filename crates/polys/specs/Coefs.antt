@@ -94,3 +94,11 @@ pub record Shared {A : Type 0} (f : Ops A) (p q : Series A) : Type 0 where
 -- a polynomial has one quotient and one remainder
 abbrev pub One-division : {A : Type 0} → Ops A → Type 0
 One-division {A} f = (n m : ℕ) (p d q r q′ r′ : Series A) → Below f m q → Below f m q′ → Division f n p d q r → Division f n p d q′ r′ → (q ≡ q′) × (r ≡ r′)
+
+-- two polynomials have one greatest common divisor
+abbrev pub One-gcd : {A : Type 0} → Ops A → Type 0
+One-gcd {A} f = (t n n′ : ℕ) (p q g g′ : Series A) → Gcd f t n p q g → Gcd f t n′ p q g′ → g ≡ g′
+
+-- a polynomial has one inverse modulo p, of degree t, at most
+abbrev pub One-inverse : {A : Type 0} → Ops A → Type 0
+One-inverse {A} f = (t : ℕ) (p q b b′ : Series A) → Degree f t p → Inverse f t p q b → Inverse f t p q b′ → b ≡ b′

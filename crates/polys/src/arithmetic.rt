@@ -39,6 +39,17 @@ pub fn degree<F: BinaryField>(p: &[u16]) -> Option<usize>
     degree_from::<F>(p, 0)
 }
 
+// Adds p to a polynomial.
+pub fn add<F: BinaryField>(into: &mut [u16], p: &[u16])
+    requires { ⌜ length (now p) ≤ length (now into) ⌝ }
+    ensures { λ _. ⌜ coefs (F·Field .places) (now (into .exit)) ≡ poly (F·Field .ops) .add (coefs (F·Field .places) (now (into .entry))) (coefs (F·Field .places) (now (p .entry))) ⌝ }
+{
+    for i in 0..p.len() {
+        let x = read::<F>(into[i]);
+        into[i] = x.sum(read::<F>(p[i])).place();
+    }
+}
+
 // Adds c·p to a polynomial.
 pub fn add_multiple<F: BinaryField>(into: &mut [u16], p: &[u16], c: F)
     requires { ⌜ length (now p) ≤ length (now into) ⌝ }
@@ -108,7 +119,7 @@ pub fn scale<F: BinaryField>(p: &mut [u16], c: F)
     }
 }
 
-// A theorem over every field, as a contract.
+// Division has one quotient and one remainder.
 pub fn one_division_stands<F: Field>() -> u8
     ensures { λ _. ⌜ One-division (F·Field .ops) ⌝ }
 {

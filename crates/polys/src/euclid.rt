@@ -6,7 +6,7 @@ ghost use Prim.Native.Nat.{ℕ, _+_, _-_, _<_, _≤_};
 ghost use lib.ListN.{length, getD};
 ghost use Rattle.std.specs.Options.{Cases};
 ghost use Rattle.algebra.specs.Series.{Below, Degree};
-ghost use Rattle.polys.specs.Coefs.{poly, coefs, mono, Lead, Reduced, Euclid, Gcd, Inverse, Shared};
+ghost use Rattle.polys.specs.Coefs.{poly, coefs, mono, Lead, Reduced, Euclid, Gcd, Inverse, Shared, One-gcd, One-inverse};
 ghost use Rattle.polys.specs.Values.{value, AtPoints};
 use crate::arithmetic::add_scaled;
 use crate::arithmetic::clear;
@@ -108,4 +108,18 @@ pub fn inverse<F: BinaryField>(
     };
     scale(b, e);
     true
+}
+
+// Two polynomials have one greatest common divisor.
+pub fn one_gcd_stands<F: Field>() -> u8
+    ensures { λ _. ⌜ One-gcd (F·Field .ops) ⌝ }
+{
+    0
+}
+
+// A polynomial has one inverse at most.
+pub fn one_inverse_stands<F: Field>() -> u8
+    ensures { λ _. ⌜ One-inverse (F·Field .ops) ⌝ }
+{
+    0
 }

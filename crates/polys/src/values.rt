@@ -22,7 +22,8 @@ pub fn value_at<F: BinaryField>(p: &[u16], x: F) -> F
 // A step of Horner's rule at every point x: each value v becomes c + x·v.
 pub fn horner_step<F: BinaryField>(values: &mut [u16], points: &[u16], c: F)
     requires { ⌜ length (now points) ≤ length (now values) ⌝ }
-    ensures { λ _. ⌜ ((j : ℕ) → j < length (now (points .entry)) → getD (now (values .exit)) j 0 ≡ F·Field .places .num (F·Field .ops .add c (F·Field .ops .mul (F·Field .places .at (getD (now (points .entry)) j 0)) (F·Field .places .at (getD (now (values .entry)) j 0))))) ⌝ }
+    ensures step { λ _. ⌜ ((j : ℕ) → j < length (now (points .entry)) → getD (now (values .exit)) j 0 ≡ F·Field .places .num (F·Field .ops .add c (F·Field .ops .mul (F·Field .places .at (getD (now (points .entry)) j 0)) (F·Field .places .at (getD (now (values .entry)) j 0))))) ⌝ }
+    ensures rest { λ _. ⌜ ((j : ℕ) → length (now (points .entry)) ≤ j → getD (now (values .exit)) j 0 ≡ getD (now (values .entry)) j 0) ⌝ }
 {
     for i in 0..points.len() {
         let x = read::<F>(points[i]);
@@ -30,10 +31,11 @@ pub fn horner_step<F: BinaryField>(values: &mut [u16], points: &[u16], c: F)
     }
 }
 
-// The values at many points.
+// The values at many points; zeros stand after them.
 pub fn values_at<F: BinaryField>(values: &mut [u16], p: &[u16], points: &[u16])
     requires { ⌜ length (now points) ≤ length (now values) ⌝ }
-    ensures { λ _. ⌜ ((j : ℕ) → j < length (now (points .entry)) → getD (now (values .exit)) j 0 ≡ F·Field .places .num (value (F·Field .ops) (F·Field .places) (now (p .entry)) (F·Field .places .at (getD (now (points .entry)) j 0)))) ⌝ }
+    ensures each { λ _. ⌜ ((j : ℕ) → j < length (now (points .entry)) → getD (now (values .exit)) j 0 ≡ F·Field .places .num (value (F·Field .ops) (F·Field .places) (now (p .entry)) (F·Field .places .at (getD (now (points .entry)) j 0)))) ⌝ }
+    ensures rest { λ _. ⌜ ((j : ℕ) → length (now (points .entry)) ≤ j → getD (now (values .exit)) j 0 ≡ 0) ⌝ }
 {
     clear(values);
     for i in (0..p.len()).rev() {
