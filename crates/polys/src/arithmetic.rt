@@ -84,7 +84,8 @@ pub fn product<F: BinaryField>(out: &mut [u16], p: &[u16], q: &[u16])
 // The inverse of the highest coefficient.
 pub fn leading_inverse<F: BinaryField>(p: &[u16], n: usize) -> F
     requires { ⌜ n < length (now p) ⌝ ∗ ⌜ Degree (F·Field .ops) n (coefs (F·Field .places) (now p)) ⌝ }
-    ensures { λ r. ⌜ Lead (F·Field .ops) n r (coefs (F·Field .places) (now (p .entry))) ⌝ }
+    ensures is { λ r. ⌜ r ≡ F·Field .ops .inv (coefs (F·Field .places) (now (p .entry)) n) ⌝ }
+    ensures lead { λ r. ⌜ Lead (F·Field .ops) n r (coefs (F·Field .places) (now (p .entry))) ⌝ }
 {
     match read::<F>(p[n]).inverse() {
         Some(e) => e,
@@ -117,6 +118,15 @@ pub fn scale<F: BinaryField>(p: &mut [u16], c: F)
     for i in 0..p.len() {
         p[i] = c.product(read::<F>(p[i])).place();
     }
+}
+
+// Divides a polynomial of degree n by its leading coefficient.
+pub fn make_monic<F: BinaryField>(p: &mut [u16], n: usize)
+    requires { ⌜ n < length (now p) ⌝ ∗ ⌜ Degree (F·Field .ops) n (coefs (F·Field .places) (now p)) ⌝ }
+    ensures { λ _. ⌜ coefs (F·Field .places) (now (p .exit)) ≡ poly (F·Field .ops) .mul (mono (F·Field .ops) (F·Field .ops .inv (coefs (F·Field .places) (now (p .entry)) n)) 0) (coefs (F·Field .places) (now (p .entry))) ⌝ }
+{
+    let e = leading_inverse::<F>(p, n);
+    scale(p, e);
 }
 
 // Division has one quotient and one remainder.

@@ -12,6 +12,7 @@ use crate::arithmetic::add_scaled;
 use crate::arithmetic::clear;
 use crate::arithmetic::degree_from;
 use crate::arithmetic::leading_inverse;
+use crate::arithmetic::make_monic;
 use crate::arithmetic::scale;
 use fields::field::BinaryField;
 use fields::field::Field;
@@ -84,8 +85,7 @@ pub fn gcd<F: BinaryField>(
     ensures { λ n. ⌜ Gcd (F·Field .ops) top n (coefs (F·Field .places) (now (s .entry))) (coefs (F·Field .places) (now (r .entry))) (coefs (F·Field .places) (now (s .exit))) ⌝ }
 {
     let n = euclid::<F>(s, r, a, b, top, 0);
-    let e = leading_inverse::<F>(s, n);
-    scale(s, e);
+    make_monic::<F>(s, n);
     n
 }
 

@@ -8,26 +8,33 @@ use fields::field::BinaryField;
 use fields::field::Field;
 use fields::read;
 
+// A step of Horner's rule: c + x·v.
+fn horner_step<F: Field>(c: F, x: F, v: F) -> F
+    ensures { λ r. ⌜ r ≡ F·Field .ops .add c (F·Field .ops .mul x v) ⌝ }
+{
+    c.sum(x.product(v))
+}
+
 // The value at x.
 pub fn value_at<F: BinaryField>(p: &[u16], x: F) -> F
     ensures { λ r. ⌜ r ≡ value (F·Field .ops) (F·Field .places) (now (p .entry)) x ⌝ }
 {
     let mut sum = F::zero();
     for i in (0..p.len()).rev() {
-        sum = read::<F>(p[i]).sum(x.product(sum));
+        sum = horner_step(read::<F>(p[i]), x, sum);
     }
     sum
 }
 
 // A step of Horner's rule at every point x: each value v becomes c + x·v.
-pub fn horner_step<F: BinaryField>(values: &mut [u16], points: &[u16], c: F)
+pub fn horner_steps<F: BinaryField>(values: &mut [u16], points: &[u16], c: F)
     requires { ⌜ length (now points) ≤ length (now values) ⌝ }
     ensures step { λ _. ⌜ ((j : ℕ) → j < length (now (points .entry)) → getD (now (values .exit)) j 0 ≡ F·Field .places .num (F·Field .ops .add c (F·Field .ops .mul (F·Field .places .at (getD (now (points .entry)) j 0)) (F·Field .places .at (getD (now (values .entry)) j 0))))) ⌝ }
     ensures rest { λ _. ⌜ ((j : ℕ) → length (now (points .entry)) ≤ j → getD (now (values .exit)) j 0 ≡ getD (now (values .entry)) j 0) ⌝ }
 {
     for i in 0..points.len() {
         let x = read::<F>(points[i]);
-        values[i] = c.sum(x.product(read::<F>(values[i]))).place();
+        values[i] = horner_step(c, x, read::<F>(values[i])).place();
     }
 }
 
@@ -39,6 +46,6 @@ pub fn values_at<F: BinaryField>(values: &mut [u16], p: &[u16], points: &[u16])
 {
     clear(values);
     for i in (0..p.len()).rev() {
-        horner_step(values, points, read::<F>(p[i]));
+        horner_steps(values, points, read::<F>(p[i]));
     }
 }

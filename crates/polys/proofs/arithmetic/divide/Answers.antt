@@ -30,7 +30,7 @@ loop-n-again g c =
     let z = g .F·Field·met .origin in
     let K = c .in-Some .k in
     let n = c .loop-n .n - 1 in
-    let got = c .leading-inverse-e .ensures in
+    let got = c .leading-inverse-e .ensures .lead in
     let inv = c .loop-n .inv in
     let D = coefs pl (c .args .d .now) in
     let R = coefs pl (c .loop-n .rem) in
@@ -50,7 +50,7 @@ pub returns : need.returns
 returns g c =
     let inv = c .loop-n .inv in
     record {
-      degree = lead-degree (g .F·Field·met .laws) (g .F·Field .places) (g .F·Field·met .origin) (c .in-Some .k) (c .leading-inverse-e .result) (coefs (g .F·Field .places) (c .args .d .now)) (c .leading-inverse-e .ensures);
+      degree = lead-degree (g .F·Field·met .laws) (g .F·Field .places) (g .F·Field·met .origin) (c .in-Some .k) (c .leading-inverse-e .result) (coefs (g .F·Field .places) (c .args .d .now)) (c .leading-inverse-e .ensures .lead);
       whole = inv .0;
       rest = λ j h. inv .1 j (omega arith);
     }

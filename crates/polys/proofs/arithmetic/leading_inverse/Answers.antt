@@ -15,4 +15,4 @@ returns g c =
     let is : coefs (g .F·Field .places) (c .args .p .now) (c .args .n) ≡ c .read .result = coefs-at k (g .F·Field .places) (c .args .p .now) (c .args .n) ∙ sym (c .read .ensures) in
     let one = k .mul-inv (c .read .result) (got .0) in
     let e = got .1 in
-    record { top = cc; under = c .pre .1 .1 }
+    record { is = cc; lead = record { top = cc; under = c .pre .1 .1 } }

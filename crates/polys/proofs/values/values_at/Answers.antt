@@ -18,16 +18,16 @@ loop-i-holds g c =
     )
 
 pub loop-i-again : need.loop-i-again
-loop-i-again g c = (more, λ j h. c .horner-step .ensures .rest j h ∙ c .loop-i .inv .1 j h) where
+loop-i-again g c = (more, λ j h. c .horner-steps .ensures .rest j h ∙ c .loop-i .inv .1 j h) where
   more : (j : ℕ) → j < length (c .args .points .now)
-      → getD (c .horner-step .last .values) j 0
+      → getD (c .horner-steps .last .values) j 0
       ≡ g .F·Field .places .num (value (g .F·Field .ops) (g .F·Field .places) (drop (c .loop-i .i - 1) (c .args .p .now)) (g .F·Field .places .at (getD (c .args .points .now) j 0)))
   more j h =
       let f = g .F·Field .ops in
       let pl = g .F·Field .places in
       let x = pl .at (getD (c .args .points .now) j 0) in
       let old = c .loop-i .inv .0 j h in
-      let new = c .horner-step .ensures .step j h in
+      let new = c .horner-steps .ensures .step j h in
       let back = pl .at-num (value f pl (drop (c .loop-i .i) (c .args .p .now)) x) in
       let e = value-more f pl (c .args .p .now) x (c .loop-i .i) (omega arith) (omega arith) in
       cc

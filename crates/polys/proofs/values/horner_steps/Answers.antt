@@ -3,7 +3,7 @@ use Prim.Native.Nat.{ℕ, _<_}
 use native.Mathlib.Omega.{arith}
 use lib.ListN.{length, getD}
 use Rattle.polys.proofs.Points.{below-set, above-set}
-use Rattle.polys.proofs.values.horner_step.Needs as need
+use Rattle.polys.proofs.values.horner_steps.Needs as need
 
 pub loop-i-again : need.loop-i-again
 loop-i-again g c =
