@@ -1,0 +1,9 @@
+pub mod Every
+pub mod Linear
+pub mod Shifts
+pub mod Numbers
+pub mod Rings
+pub mod Series
+pub mod Eval
+pub mod Lists
+pub mod Solve

@@ -1,0 +1,3 @@
+pub mod Product
+pub mod Folds
+pub mod Model
