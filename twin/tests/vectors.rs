@@ -5,7 +5,7 @@ mod common;
 use common::{product, seal_by_both};
 use twin::bits::ones;
 use twin::cases::{sealed, seals, shuffles, Sealed};
-use twin::hash::{Hash, Kind};
+use twin::hash::{hex, Hash, Kind};
 use twin::random::Random;
 use twin::seal::Order;
 use twin::shuffle;
@@ -84,5 +84,42 @@ fn shuffled_lists() {
         assert_eq!(product::shuffle(&case.seed, &mut items), 0);
         assert!(case.order.is(&items), "the product, length {}", case.n);
         assert!(case.order.is(&shuffle::order(case.n, &case.seed)), "the twin, length {}", case.n);
+    }
+}
+
+/// The messages of the two standards' examples, with the first 32 bytes of their
+/// SHA3-512 and SHA-512.
+const OFFICIAL: [(&str, &str, &str); 4] = [
+    (
+        "",
+        "a69f73cca23a9ac5c8b567dc185a756e97c982164fe25859e0d1dcc1475c80a6",
+        "cf83e1357eefb8bdf1542850d66d8007d620e4050b5715dc83f4a921d36ce9ce",
+    ),
+    (
+        "abc",
+        "b751850b1a57168a5693cd924b6b096e08f621827444f70d884f5d0240d2712e",
+        "ddaf35a193617abacc417349ae20413112e6fa4e89a97ea20a9eeee64b55d39a",
+    ),
+    (
+        "abcdbcdecdefdefgefghfghighijhijkijkljklmklmnlmnomnopnopq",
+        "04a371e84ecfb5b8b77cb48610fca8182dd457ce6f326a0fd3d7ec2f1e91636d",
+        "204a8fc6dda82f0a0ced7beb8e08a41657c16ef468b228a8279be331a703c335",
+    ),
+    (
+        "abcdefghbcdefghicdefghijdefghijkefghijklfghijklmghijklmnhijklmnoijklmnopjklmnopqklmnopqrlmnopqrsmnopqrstnopqrstu",
+        "afebb2ef542e6579c50cad06d2e578f9f8dd6881d7dc824d26360feebf18a4fa",
+        "8e959b75dae313da8cf4f72814fc143f8f7779c6eb9f7fa17299aeadb6889018",
+    ),
+];
+
+#[test]
+fn official_digests() {
+    for (message, by_sha3, by_sha2) in OFFICIAL {
+        for (kind, digest) in [(Kind::Sha3, by_sha3), (Kind::Sha2, by_sha2)] {
+            let mut out = [0; 32];
+            assert_eq!(product::hash(Hash::full(kind), message.as_bytes(), &mut out), 0);
+            assert_eq!(hex(&out), digest, "{kind:?} of {message:?}");
+            assert_eq!(hex(&kind.rule(message.as_bytes())), digest, "the twin's");
+        }
     }
 }
