@@ -4,8 +4,9 @@ mod common;
 
 use common::{product, seal_by_both};
 use twin::bits::ones;
-use twin::cases::{sealed, seals, shuffles, Sealed};
+use twin::cases::{pairs, sealed, seals, shuffles, Pair, Sealed};
 use twin::hash::{hex, Hash, Kind};
+use twin::make::make;
 use twin::random::Random;
 use twin::seal::Order;
 use twin::shuffle;
@@ -59,6 +60,34 @@ fn hash_by_product(kind: Kind, parts: &[&[u8]]) -> [u8; 32] {
     let mut out = [0; 32];
     assert_eq!(product::hash(Hash::full(kind), &parts.concat(), &mut out), 0);
     out
+}
+
+/// Public keys that are too long to be written in the vectors are made by the
+/// twin, and held to their written digests.
+#[test]
+fn tickets_of_the_large_levels() {
+    let mut random = Random::new(105);
+    let pairs: Vec<Pair> = pairs().into_iter().filter(|pair| pair.level.name != "sample").collect();
+    assert_eq!(pairs.len(), 3);
+    for pair in pairs {
+        let mut public_key = vec![0; pair.level.public_key()];
+        let mut secret_key = vec![0; pair.level.secret_key()];
+        make(&pair.order(), &mut public_key, &mut secret_key).expect("the twin makes the pair");
+        assert!(pair.public_key.is(&public_key));
+        for case in &pair.sealed {
+            let order = Order {
+                level: pair.level.name.as_bytes(),
+                public_key: &public_key,
+                ticket_seed: &case.seed,
+                hash: Hash::full(case.kind),
+                room: pair.level.room,
+            };
+            let mut ticket = random.bytes(pair.level.ticket());
+            let mut key = random.bytes(32);
+            assert_eq!(seal_by_both(&order, &mut ticket, &mut key, &mut random), Ok(()));
+            assert_eq!((&ticket, &key), (&case.ticket, &case.key));
+        }
+    }
 }
 
 #[test]
