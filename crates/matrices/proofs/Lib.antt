@@ -2,3 +2,4 @@ pub mod Bytes
 pub mod Parts
 pub mod Rows
 pub mod Additions
+pub mod Entries

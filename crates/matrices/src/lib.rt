@@ -10,6 +10,9 @@ ghost use Rattle.bits.specs.Packed.{vector, matrix, packed};
 ghost use Rattle.bits.specs.Kernels.{Independent, Dependent, independent, Reduced, Echelon, Ranked};
 ghost use Rattle.bits.specs.Elimination.{Added, Low-rows, Pivoted, Settled};
 ghost use Rattle.matrices.specs.Rows.{Row-within, Place-within, Apart, Summed, Copied, Columns-copied, Settled-or-none};
+
+pub mod columns;
+
 use std::simd::prelude::*;
 
 // The sum of the products of the bits of two vectors.
