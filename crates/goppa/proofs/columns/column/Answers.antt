@@ -1,0 +1,18 @@
+use mathlib.Core.Path.{_≡_, refl, sym, ap, subst, _∙_}
+use native.Mathlib.Omega.{arith}
+use lib.ListN.{length}
+use Rattle.polys.specs.Values.{value}
+use Rattle.goppa.proofs.Quotients.{column-is}
+use Rattle.goppa.proofs.columns.column.Needs as need
+
+pub returns-in-rest : need.returns-in-rest
+returns-in-rest g c = (sym (c .value-at .ensures) ∙ c .in-rest .ensures tt, refl)
+
+pub returns : need.returns
+returns g c =
+    let f = g .F·Field .ops in
+    let here = c .in-Some .ensures tt in
+    let at = c .value-at .ensures in
+    column-is (g .F·Field·met .laws) (g .F·Field .places) (g .F·Field·met .origin) (length (c .args .out .now)) (c .args .g .now) (c .quotient .last .out) (c .scale .last .p) (c .args .a) (c .in-Some .e)
+    (c .pre .0) (c .pre .1) (omega arith) (omega arith) (c .quotient .ensures)
+    (λ e. here .0 (at ∙ e)) (here .1 ∙ ap (f .inv) at) (c .scale .ensures)

@@ -1,0 +1,4 @@
+// The Goppa code of a seed: its support and zeros, the polynomial with these zeros, and the columns
+// of the check matrix.
+pub mod columns;
+pub mod zeros;
