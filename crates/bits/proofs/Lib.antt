@@ -2,6 +2,7 @@ pub mod Tried
 pub mod Sums
 pub mod Places
 pub mod Packing
+pub mod Words
 pub mod Selections
 pub mod Rows
 pub mod Reduction

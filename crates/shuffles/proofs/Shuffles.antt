@@ -17,7 +17,8 @@ use Rattle.std.proofs.shelf.Counted.{length-counting, getD-counting}
 use Rattle.std.proofs.shelf.Edits.{length-exchanged, swapped-from-exchanged}
 use Rattle.std.proofs.shelf.Sorted.{shuffled-refl, shuffled-swap, shuffled-trans, length-shuffled, sumBy-shuffled, has-shuffled, shuffled-keeps, all-shuffled}
 use Rattle.std.proofs.shelf.Tests.{cases-eq}
-use Rattle.shuffles.specs.Shuffle.{word, shuffleFrom, shuffled}
+use Rattle.bits.specs.Words.{word}
+use Rattle.shuffles.specs.Shuffle.{shuffleFrom, shuffled}
 use Rattle.shuffles.specs.Orders.{order, Permutation}
 
 shuffle-from : {X : Type 0} (seed : List ℕ) (i w : ℕ) (xs : List X) → i ≤ length xs - 1 → Shuffled xs (shuffleFrom seed i w xs)

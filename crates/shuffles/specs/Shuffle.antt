@@ -1,14 +1,11 @@
 -- Shuffle, on lists of any kind.
 use mathlib.Core.List.{List}
-use Prim.Native.Nat.{ℕ, zero, suc, _+_, _*_, _%_, _-_}
-use lib.ListN.{length, getD}
+use Prim.Native.Nat.{ℕ, zero, suc, _+_, _%_, _-_}
+use lib.ListN.{length}
 use Rattle.std.specs.Holes.{exchanged}
+use Rattle.bits.specs.Words.{word}
 
--- word w of a seed, its high byte first
-abbrev pub word : List ℕ → ℕ → ℕ
-word seed w = 256 * getD seed (2 * w) 0 + getD seed (2 * w + 1) 0
-
--- the exchanges at the positions i, i - 1, .., 1, from word w on
+-- the exchanges at the positions i, i - 1, .., 1, from word w of the seed on
 abbrev pub shuffleFrom : {X : Type 0} → List ℕ → ℕ → ℕ → List X → List X
 shuffleFrom seed zero w xs = xs
 shuffleFrom seed (suc i) w xs =

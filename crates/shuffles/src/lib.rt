@@ -8,7 +8,7 @@ ghost use Rattle.std.specs.Iters.{counting};
 ghost use Rattle.std.specs.shelf.Lists.{countBy};
 ghost use Rattle.bits.specs.Vectors.{weight};
 ghost use Rattle.bits.specs.Packed.{vector, packed};
-ghost use Rattle.shuffles.specs.Shuffle.{word, shuffled};
+ghost use Rattle.shuffles.specs.Shuffle.{shuffled};
 ghost use Rattle.shuffles.specs.Orders.{order, among, perm, permInv, errorVector, Permutation, Same-bits};
 use levels::guards::Place;
 use levels::guards::Position;
@@ -37,14 +37,6 @@ pub impl Numbered for Position as PositionNumbered {
     }
 }
 
-// Word w of a seed, its high byte first.
-fn word_at(seed: &[u8], w: usize) -> usize
-    requires { ⌜ length (now seed) ≡ 32 ⌝ ∗ ⌜ w < 16 ⌝ }
-    ensures { λ r. ⌜ r ≡ word (now (seed .entry)) w ⌝ }
-{
-    256 * (seed[2 * w] as usize) + seed[2 * w + 1] as usize
-}
-
 // Shuffles the items by a seed. It keeps each item as often as it came.
 pub fn shuffle<T: Numbered>(items: &mut [T], seed: &[u8])
     requires { ⌜ length (now seed) ≡ 32 ⌝ }
@@ -53,7 +45,7 @@ pub fn shuffle<T: Numbered>(items: &mut [T], seed: &[u8])
 {
     let mut w = 0;
     for i in (1..items.len()).rev() {
-        let j = word_at(seed, w) % (i + 1);
+        let j = usize::from(bits::word_at(seed, w)) % (i + 1);
         items.swap(i, j);
         w = (w + 1) % 16;
     }
