@@ -4,7 +4,7 @@ use lib.Dec.{lit<}
 use Rattle.algebra.specs.Field.{Laws}
 use Rattle.algebra.specs.Numbers.{NumLaws}
 use Rattle.algebra.proofs.Numbers.{laws-from}
-use Rattle.field8192.specs.Product.{mul8192, square8192, squares, inv8192, root8192}
+use Rattle.field8192.specs.Product.{mul8192, square8192, inv8192}
 use Rattle.field8192.specs.Model.{places8192, ops8192}
 use Rattle.field8192.proofs.Ring.{mul-right, mul-below, mul-comm, mul-assoc, mul-one}
 use Rattle.field8192.proofs.Powers.{inverse}
@@ -12,10 +12,6 @@ use Rattle.field8192.proofs.Powers.{inverse}
 pub inv-below : (a : ℕ) → inv8192 a < 8192
 unfolding inv8192 square8192
 inv-below a = mul-below _ _
-
-pub root-below : (a : ℕ) → root8192 a < 8192
-unfolding root8192 squares square8192
-root-below a = mul-below _ _
 
 num-laws : NumLaws 13 mul8192 inv8192
 num-laws = record {
