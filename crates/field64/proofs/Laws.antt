@@ -1,5 +1,5 @@
 -- The laws of the field of 64.
-use mathlib.Core.Path.{_≡_, refl}
+use mathlib.Core.Path.{_≡_}
 use Prim.Native.Nat.{ℕ, _<_}
 use lib.Dec.{lit<}
 use Rattle.algebra.specs.Field.{Laws}

@@ -1,11 +1,8 @@
 // The arithmetic of polynomials.
 ghost use mathlib.Core.Path.{_≡_};
-ghost use mathlib.Core.Bool.{true, false};
-ghost use mathlib.Core.List.{map};
-ghost use Prim.Native.Nat.{ℕ, _+_, _-_, _^_, _<_, _≤_};
-ghost use lib.ListN.{length, getD, replicate};
+ghost use Prim.Native.Nat.{_+_, _-_, _<_, _≤_};
+ghost use lib.ListN.{length, replicate};
 ghost use Rattle.std.specs.Options.{Cases};
-ghost use Rattle.algebra.specs.Poly.{eval};
 ghost use Rattle.algebra.specs.Series.{Below, Degree};
 ghost use Rattle.polys.specs.Coefs.{poly, coefs, mono, Lead, Division, One-division};
 use fields::field::BinaryField;

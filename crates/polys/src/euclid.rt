@@ -2,11 +2,10 @@
 // polynomial.
 ghost use mathlib.Core.Path.{_≡_};
 ghost use mathlib.Core.Bool.{true, false};
-ghost use Prim.Native.Nat.{ℕ, _+_, _-_, _<_, _≤_};
-ghost use lib.ListN.{length, getD};
-ghost use Rattle.std.specs.Options.{Cases};
+ghost use Prim.Native.Nat.{_+_, _-_, _<_, _≤_};
+ghost use lib.ListN.{length};
 ghost use Rattle.algebra.specs.Series.{Below, Degree};
-ghost use Rattle.polys.specs.Coefs.{poly, coefs, mono, Lead, Reduced, Euclid, Gcd, Inverse, Shared, One-gcd, One-inverse};
+ghost use Rattle.polys.specs.Coefs.{poly, coefs, Reduced, Euclid, Gcd, Inverse, Shared, One-gcd, One-inverse};
 ghost use Rattle.polys.specs.Values.{value, AtPoints};
 use crate::arithmetic::add_scaled;
 use crate::arithmetic::clear;

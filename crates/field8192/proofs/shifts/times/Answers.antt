@@ -4,7 +4,6 @@ use native.Mathlib.Numerals.{add-one}
 use native.Mathlib.Omega.{arith}
 use lib.Bits.{bitXor}
 use Rattle.std.proofs.shelf.Bits.{mul-le}
-use Rattle.field8192.specs.Product.{mul8192}
 use Rattle.field8192.specs.Folds.{folded, grouped}
 use Rattle.field8192.proofs.Quick.{grouped-is, grouped-below, highest}
 use Rattle.field8192.proofs.shifts.times.Needs as need

@@ -1,8 +1,6 @@
-use mathlib.Core.Path.{_≡_}
 use native.Mathlib.Omega.{arith}
-use lib.ListN.{length, take, getD, set}
 use lib.Seq.{take-all}
-use Rattle.polys.specs.Coefs.{poly, coefs}
+use Rattle.polys.specs.Coefs.{coefs}
 use Rattle.polys.proofs.Steps.{added-none, added-more}
 use Rattle.polys.proofs.arithmetic.add.Needs as need
 

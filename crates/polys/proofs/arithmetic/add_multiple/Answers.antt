@@ -1,9 +1,6 @@
-use mathlib.Core.Path.{_≡_, refl, sym, ap, ap₂, subst, _∙_}
-use Prim.Native.Nat.{ℕ, _+_, _≤_, _<_}
 use native.Mathlib.Omega.{arith}
-use lib.ListN.{length, take, getD, set}
 use lib.Seq.{take-all}
-use Rattle.polys.specs.Coefs.{poly, coefs, mono}
+use Rattle.polys.specs.Coefs.{coefs, mono}
 use Rattle.polys.proofs.Steps.{scaled-none, multiple-more}
 use Rattle.polys.proofs.arithmetic.add_multiple.Needs as need
 

@@ -1,12 +1,12 @@
-use mathlib.Core.Path.{_≡_, refl, sym, ap, ap₂, subst, _∙_}
+use mathlib.Core.Path.{_≡_, refl, sym, ap, subst, _∙_}
 use mathlib.Core.List.{[], _∷_}
 use mathlib.Core.Logic.{_≢_}
-use Prim.Native.Nat.{ℕ, suc, _+_, _-_, _≤_, _<_}
+use Prim.Native.Nat.{_+_, _-_}
 use native.Mathlib.Omega.{arith}
-use lib.ListN.{length, getD, take, replicate}
+use lib.ListN.{length, getD}
 use lib.Seq.{getD-set-other}
 use Rattle.algebra.specs.Series.{Series, Below}
-use Rattle.algebra.proofs.Solve.{Ex, v, o, i, _⊕_, _⊗_, solve}
+use Rattle.algebra.proofs.Solve.{v, o, _⊕_, _⊗_, solve}
 use Rattle.polys.specs.Coefs.{poly, coefs, mono}
 use Rattle.polys.proofs.Terms.{poly-laws}
 use Rattle.polys.proofs.Lists.{write-new, coefs-at, coefs-take, coefs-zeros, below-list, getD-zeros}

@@ -1,9 +1,6 @@
-use mathlib.Core.Path.{_≡_, refl, sym, ap, ap₂, _∙_}
-use Prim.Native.Nat.{ℕ, _+_, _≤_, _<_}
-use native.Mathlib.Omega.{arith}
-use lib.ListN.{length, take}
+use lib.ListN.{length}
 use lib.Seq.{take-all}
-use Rattle.polys.specs.Coefs.{poly, coefs, mono}
+use Rattle.polys.specs.Coefs.{coefs}
 use Rattle.polys.proofs.Steps.{product-none, product-more}
 use Rattle.polys.proofs.arithmetic.product.Needs as need
 

@@ -1,6 +1,4 @@
-use mathlib.Core.Path.{_≡_}
 use Prim.Native.Nat.{_≤_}
-use lib.ListN.{length}
 use Rattle.polys.specs.Coefs.{coefs, Euclid}
 use Rattle.polys.proofs.euclid.euclid.Given as given
 

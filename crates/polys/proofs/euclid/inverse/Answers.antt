@@ -1,5 +1,5 @@
-use mathlib.Core.Path.{_≡_, refl, sym, ap, _∙_}
-use Rattle.polys.specs.Coefs.{poly, coefs, mono}
+use mathlib.Core.Path.{_≡_, sym, _∙_}
+use Rattle.polys.specs.Coefs.{coefs}
 use Rattle.polys.proofs.Lists.{coefs-at}
 use Rattle.polys.proofs.Rule.{inverse-made, shared-made}
 use Rattle.polys.proofs.euclid.inverse.Needs as need
