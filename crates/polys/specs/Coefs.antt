@@ -1,7 +1,7 @@
 -- Polynomials over a field whose coefficients stand in a list, as the places of elements, that of X^0 first.
 use mathlib.Core.Path.{_≡_}
 use mathlib.Core.List.{List}
-use Prim.Native.Nat.{ℕ, zero, suc, _-_, _≤_}
+use Prim.Native.Nat.{ℕ, zero, suc, _-_, _^_, _<_, _≤_}
 use lib.ListN.{getD}
 use Rattle.algebra.specs.Field.{Ops, Places}
 use Rattle.algebra.specs.Ring.{Ring, ring-of}
@@ -14,6 +14,10 @@ poly f = series (ring-of f)
 -- the polynomial in a list: a number that is no place counts as zero
 unfoldable pub coefs : {A : Type 0} {m : ℕ} → Places A m → List ℕ → Series A
 coefs p l i = p .at (getD l i 0)
+
+-- every number in a list is a place
+abbrev pub Placed : ℕ → List ℕ → Type 0
+Placed m l = (i : ℕ) → getD l i 0 < 2 ^ m
 
 -- c·X^k
 unfoldable pub mono : {A : Type 0} → Ops A → A → ℕ → Series A

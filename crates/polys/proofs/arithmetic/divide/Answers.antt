@@ -37,6 +37,7 @@ loop-n-again g c =
     let M = mono f (c .product-c .result) (n - K) in
     let wrote = write-new k pl z (c .loop-n .quot) (n - K) (c .place .result) (c .product-c .result) (omega arith) (inv .2 (n - K) (omega arith)) (c .place .ensures) in
     let front = coefs-take k pl z (c .args .d .now) (K + 1) (λ j h. got .under j (omega arith)) in
+    let put = c .add-scaled .ensures .is in
     let added : coefs pl (c .add-scaled .last .into) ≡ poly f .add R (poly f .mul M D) = cc in
     let by : c .product-c .result ≡ f .mul (c .read .result) (c .leading-inverse-e .result) = c .product-c .ensures in
     let read : c .product-c .result ≡ f .mul (R n) (c .leading-inverse-e .result) = by ∙ ap (λ x. f .mul x (c .leading-inverse-e .result)) (c .read .ensures ∙ sym (coefs-at k pl (c .loop-n .rem) n)) in

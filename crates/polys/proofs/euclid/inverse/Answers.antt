@@ -26,4 +26,4 @@ returns g c =
     let is = here .1 in
     let top : f .mul (of (x .r) 0) (c .in-Some .e) ≡ f .one = cc in
     inverse-made k (c .args .top) (of (c .args .s .now)) (of (c .args .r .now)) (of (x .s)) (of (x .r)) (of (x .a)) (of (x .b)) (of (c .scale .last .p)) (c .euclid .result) (c .in-Some .e) (got .rule) (got .last .0) (got .last .1)
-    top (c .scale .ensures)
+    top (c .scale .ensures .is)
