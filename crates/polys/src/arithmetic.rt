@@ -97,7 +97,7 @@ pub fn leading_inverse<F: BinaryField>(p: &[u16], n: usize) -> F
 // Division with remainder: `rem` holds the dividend, and then the remainder. The degree of the divisor; absent where that is zero.
 pub fn divide<F: BinaryField>(rem: &mut [u16], quot: &mut [u16], d: &[u16]) -> Option<usize>
     requires { ⌜ length (now rem) ≤ length (now quot) ⌝ }
-    ensures { λ r. ⌜ Cases r ((coefs (F·Field .places) (now (d .entry)) ≡ poly (F·Field .ops) .zero) × (now (rem .exit) ≡ now (rem .entry)) × (now (quot .exit) ≡ now (quot .entry))) (λ n. Division (F·Field .ops) n (coefs (F·Field .places) (now (rem .entry))) (coefs (F·Field .places) (now (d .entry))) (coefs (F·Field .places) (now (quot .exit))) (coefs (F·Field .places) (now (rem .exit)))) ⌝ }
+    ensures { λ r. ⌜ Cases r ((coefs (F·Field .places) (now (d .entry)) ≡ poly (F·Field .ops) .zero) × (now (rem .exit) ≡ now (rem .entry)) × (now (quot .exit) ≡ now (quot .entry))) (λ n. Division (F·Field .ops) n (coefs (F·Field .places) (now (rem .entry))) (coefs (F·Field .places) (now (d .entry))) (coefs (F·Field .places) (now (quot .exit))) (coefs (F·Field .places) (now (rem .exit))) × Placed (F·Field .bits) (now (quot .exit)) × (Placed (F·Field .bits) (now (rem .entry)) → Placed (F·Field .bits) (now (rem .exit)))) ⌝ }
 {
     let Some(k) = degree::<F>(d) else {
         return None;

@@ -5,7 +5,7 @@ ghost use mathlib.Core.Bool.{true, false};
 ghost use Prim.Native.Nat.{_+_, _-_, _<_, _≤_};
 ghost use lib.ListN.{length};
 ghost use Rattle.algebra.specs.Series.{Below, Degree};
-ghost use Rattle.polys.specs.Coefs.{poly, coefs, Reduced, Euclid, Gcd, Inverse, Shared, One-gcd, One-inverse};
+ghost use Rattle.polys.specs.Coefs.{poly, coefs, Placed, Reduced, Euclid, Gcd, Inverse, Shared, One-gcd, One-inverse};
 ghost use Rattle.polys.specs.Values.{value, AtPoints};
 use crate::arithmetic::add_scaled;
 use crate::arithmetic::clear;
@@ -81,7 +81,8 @@ pub fn gcd<F: BinaryField>(
     requires fits { ⌜ top < length (now s) ⌝ ∗ ⌜ length (now r) ≡ length (now s) ⌝ ∗ ⌜ length (now b) ≡ length (now a) ⌝ ∗ ⌜ top < length (now a) ⌝ }
     requires degree { ⌜ Degree (F·Field .ops) top (coefs (F·Field .places) (now s)) ⌝ }
     requires under { ⌜ Below (F·Field .ops) top (coefs (F·Field .places) (now r)) ⌝ }
-    ensures { λ n. ⌜ Gcd (F·Field .ops) top n (coefs (F·Field .places) (now (s .entry))) (coefs (F·Field .places) (now (r .entry))) (coefs (F·Field .places) (now (s .exit))) ⌝ }
+    ensures is { λ n. ⌜ Gcd (F·Field .ops) top n (coefs (F·Field .places) (now (s .entry))) (coefs (F·Field .places) (now (r .entry))) (coefs (F·Field .places) (now (s .exit))) ⌝ }
+    ensures placed { λ _. ⌜ Placed (F·Field .bits) (now (s .exit)) ⌝ }
 {
     let n = euclid::<F>(s, r, a, b, top, 0);
     make_monic::<F>(s, n);
@@ -99,7 +100,7 @@ pub fn inverse<F: BinaryField>(
     requires fits { ⌜ 1 ≤ top ⌝ ∗ ⌜ top < length (now s) ⌝ ∗ ⌜ length (now r) ≡ length (now s) ⌝ ∗ ⌜ length (now b) ≡ length (now a) ⌝ ∗ ⌜ top ≤ length (now a) ⌝ }
     requires degree { ⌜ Degree (F·Field .ops) top (coefs (F·Field .places) (now s)) ⌝ }
     requires under { ⌜ Below (F·Field .ops) top (coefs (F·Field .places) (now r)) ⌝ }
-    ensures { λ o. ⌜ elim o [ true ↦ Inverse (F·Field .ops) top (coefs (F·Field .places) (now (s .entry))) (coefs (F·Field .places) (now (r .entry))) (coefs (F·Field .places) (now (b .exit))) | false ↦ Shared (F·Field .ops) (coefs (F·Field .places) (now (s .entry))) (coefs (F·Field .places) (now (r .entry))) ] ⌝ }
+    ensures { λ o. ⌜ elim o [ true ↦ Inverse (F·Field .ops) top (coefs (F·Field .places) (now (s .entry))) (coefs (F·Field .places) (now (r .entry))) (coefs (F·Field .places) (now (b .exit))) × Placed (F·Field .bits) (now (b .exit)) | false ↦ Shared (F·Field .ops) (coefs (F·Field .places) (now (s .entry))) (coefs (F·Field .places) (now (r .entry))) ] ⌝ }
 {
     euclid::<F>(s, r, a, b, top, 1);
     let Some(e) = read::<F>(r[0]).inverse() else {
