@@ -10,7 +10,8 @@ use Rattle.algebra.specs.Series.{Series, tail, ser, Below}
 use Rattle.algebra.proofs.Rings.{ring-laws, zero-add, mul-zero}
 use Rattle.algebra.proofs.Eval.{eval-sum, eval-product}
 use Rattle.algebra.proofs.Lists.{ser-sum, ser-product}
-use Rattle.polys.specs.Coefs.{poly, coefs, Euclid}
+use Rattle.polys.specs.Coefs.{poly, coefs}
+use Rattle.polys.specs.Euclid.{Euclid}
 use Rattle.polys.specs.Values.{value, AtPoints}
 use Rattle.polys.proofs.Lists.{coefs-map}
 

@@ -9,7 +9,8 @@ use Rattle.algebra.specs.Ring.{ring-of}
 use Rattle.algebra.specs.Series.{Series, tail, times, Below, Degree}
 use Rattle.algebra.proofs.Rings.{ring-laws, mul-zero, zero-mul, zero-add}
 use Rattle.algebra.proofs.Solve.{v, i, _⊕_, _⊗_, solve}
-use Rattle.polys.specs.Coefs.{poly, Division, Gcd, One-division, One-gcd, One-inverse}
+use Rattle.polys.specs.Coefs.{poly, Division, One-division}
+use Rattle.polys.specs.Euclid.{Gcd, One-gcd, One-inverse}
 use Rattle.polys.proofs.Terms.{poly-laws, at-add, at-zero, below-add, below-less}
 use Rattle.polys.proofs.Rule.{none-times, below-mul}
 

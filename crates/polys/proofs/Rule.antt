@@ -9,7 +9,8 @@ use Rattle.algebra.specs.Ring.{ring-of}
 use Rattle.algebra.specs.Series.{Series, tail, times, Below, Degree}
 use Rattle.algebra.proofs.Rings.{ring-laws, mul-zero, zero-mul, zero-add}
 use Rattle.algebra.proofs.Solve.{v, o, i, _⊕_, _⊗_, solve}
-use Rattle.polys.specs.Coefs.{poly, mono, Lead, Reduced, Euclid, Gcd, Inverse, Shared}
+use Rattle.polys.specs.Coefs.{poly, mono, Lead}
+use Rattle.polys.specs.Euclid.{Reduced, Euclid, Gcd, Inverse, Shared}
 use Rattle.polys.proofs.Terms.{poly-laws, at-zero, mono-same, mono-other, mono-high, mono-mul, below-add, below-mono}
 
 module _ {A : Type 0} {f : Ops A} (k : Laws f) where

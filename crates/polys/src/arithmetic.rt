@@ -10,7 +10,7 @@ use fields::field::Field;
 use fields::is_zero;
 use fields::read;
 
-// Every coefficient zero.
+// Makes every coefficient zero.
 pub fn clear(p: &mut [u16])
     ensures { λ _. ⌜ now (p .exit) ≡ replicate (length (now (p .entry))) 0 ⌝ }
 {
@@ -82,7 +82,7 @@ pub fn product<F: BinaryField>(out: &mut [u16], p: &[u16], q: &[u16])
     }
 }
 
-// The inverse of the highest coefficient.
+// The inverse of the leading coefficient.
 pub fn leading_inverse<F: BinaryField>(p: &[u16], n: usize) -> F
     requires { ⌜ n < length (now p) ⌝ ∗ ⌜ Degree (F·Field .ops) n (coefs (F·Field .places) (now p)) ⌝ }
     ensures is { λ r. ⌜ r ≡ F·Field .ops .inv (coefs (F·Field .places) (now (p .entry)) n) ⌝ }
@@ -94,7 +94,8 @@ pub fn leading_inverse<F: BinaryField>(p: &[u16], n: usize) -> F
     }
 }
 
-// Division with remainder: `rem` holds the dividend, and then the remainder. The degree of the divisor; absent where that is zero.
+// Division with remainder: `rem` holds the dividend, and then the remainder. The result is the
+// degree of the divisor; absent where the divisor is zero.
 pub fn divide<F: BinaryField>(rem: &mut [u16], quot: &mut [u16], d: &[u16]) -> Option<usize>
     requires { ⌜ length (now rem) ≤ length (now quot) ⌝ }
     ensures { λ r. ⌜ Cases r ((coefs (F·Field .places) (now (d .entry)) ≡ poly (F·Field .ops) .zero) × (now (rem .exit) ≡ now (rem .entry)) × (now (quot .exit) ≡ now (quot .entry))) (λ n. Division (F·Field .ops) n (coefs (F·Field .places) (now (rem .entry))) (coefs (F·Field .places) (now (d .entry))) (coefs (F·Field .places) (now (quot .exit))) (coefs (F·Field .places) (now (rem .exit))) × Placed (F·Field .bits) (now (quot .exit)) × (Placed (F·Field .bits) (now (rem .entry)) → Placed (F·Field .bits) (now (rem .exit)))) ⌝ }
@@ -112,7 +113,7 @@ pub fn divide<F: BinaryField>(rem: &mut [u16], quot: &mut [u16], d: &[u16]) -> O
     Some(k)
 }
 
-// Every coefficient times c.
+// Multiplies every coefficient by c.
 pub fn scale<F: BinaryField>(p: &mut [u16], c: F)
     ensures is { λ _. ⌜ coefs (F·Field .places) (now (p .exit)) ≡ poly (F·Field .ops) .mul (mono (F·Field .ops) c 0) (coefs (F·Field .places) (now (p .entry))) ⌝ }
     ensures placed { λ _. ⌜ Placed (F·Field .bits) (now (p .exit)) ⌝ }

@@ -5,7 +5,8 @@ ghost use mathlib.Core.Bool.{true, false};
 ghost use Prim.Native.Nat.{_+_, _-_, _<_, _≤_};
 ghost use lib.ListN.{length};
 ghost use Rattle.algebra.specs.Series.{Below, Degree};
-ghost use Rattle.polys.specs.Coefs.{poly, coefs, Placed, Reduced, Euclid, Gcd, Inverse, Shared, One-gcd, One-inverse};
+ghost use Rattle.polys.specs.Coefs.{poly, coefs, Placed};
+ghost use Rattle.polys.specs.Euclid.{Reduced, Euclid, Gcd, Inverse, Shared, One-gcd, One-inverse};
 ghost use Rattle.polys.specs.Values.{value, AtPoints};
 use crate::arithmetic::add_scaled;
 use crate::arithmetic::clear;
@@ -40,7 +41,9 @@ pub fn reduce<F: BinaryField>(
     }
 }
 
-// Euclid's rule from s, of degree `top`, and r, of a lower one, up to the first remainder below X^stop, which r then holds; s holds the one before, a and b their factors. The degree of s.
+// Euclid's rule from s, of degree `top`, and r, of a lower one, up to the first remainder below
+// X^stop, which r then holds; s holds the one before, and a and b hold the factors of the first r in
+// them. The result is the degree of s.
 pub fn euclid<F: BinaryField>(
     s: &mut [u16],
     r: &mut [u16],
@@ -70,7 +73,8 @@ pub fn euclid<F: BinaryField>(
     n
 }
 
-// The greatest common divisor of s, of degree `top`, and r, of a lower one, in s: the coefficient at its degree is one. That degree.
+// The monic greatest common divisor of s, of degree `top`, and r, of a lower one, in s: where r is
+// zero, s made monic. The result is its degree.
 pub fn gcd<F: BinaryField>(
     s: &mut [u16],
     r: &mut [u16],
@@ -89,7 +93,8 @@ pub fn gcd<F: BinaryField>(
     n
 }
 
-// Whether r, of a degree below that of s, which is `top`, has an inverse modulo s; b then holds it.
+// Whether r, of a lower degree than s, has an inverse modulo s, whose degree is `top`; b then holds
+// it.
 pub fn inverse<F: BinaryField>(
     s: &mut [u16],
     r: &mut [u16],

@@ -3,7 +3,8 @@ use Prim.Native.Nat.{_+_, _-_}
 use native.Mathlib.Omega.{arith}
 use lib.ListN.{length, getD}
 use Rattle.algebra.specs.Series.{Series}
-use Rattle.polys.specs.Coefs.{coefs, Reduced}
+use Rattle.polys.specs.Coefs.{coefs}
+use Rattle.polys.specs.Euclid.{Reduced}
 use Rattle.polys.proofs.Lists.{coefs-zeros, coefs-take, write-new, getD-zeros}
 use Rattle.polys.proofs.Rule.{euclid-none, euclid-more, euclid-swap, one-write, factor}
 use Rattle.polys.proofs.Bridge.{at-points}

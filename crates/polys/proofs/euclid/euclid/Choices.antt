@@ -1,5 +1,6 @@
 use Prim.Native.Nat.{_≤_}
-use Rattle.polys.specs.Coefs.{coefs, Euclid}
+use Rattle.polys.specs.Coefs.{coefs}
+use Rattle.polys.specs.Euclid.{Euclid}
 use Rattle.polys.proofs.euclid.euclid.Given as given
 
 abbrev pub Inv-loop-k : given.InvT-loop-k
