@@ -1,5 +1,5 @@
 -- The value of a sum and of a product of polynomials.
-use mathlib.Core.Path.{_≡_, refl, sym, ap, _∙_}
+use mathlib.Core.Path.{_≡_, sym, ap, _∙_}
 use mathlib.Core.List.{List, [], _∷_}
 use Rattle.algebra.specs.Field.{Ops, Laws}
 use Rattle.algebra.specs.Poly.{sum, scale, product, eval}

@@ -3,9 +3,9 @@ use mathlib.Core.Path.{_≡_, refl, sym, ap, ap₂, fun-ext, _∙_}
 use mathlib.Core.List.{List, [], _∷_}
 use Prim.Native.Nat.{ℕ, zero, suc}
 use Rattle.algebra.specs.Field.{Ops, Laws}
-use Rattle.algebra.specs.Ring.{Ring, RingLaws, ring-of}
+use Rattle.algebra.specs.Ring.{ring-of}
 use Rattle.algebra.specs.Poly.{sum, scale, product}
-use Rattle.algebra.specs.Series.{Series, ser, tail, times, series}
+use Rattle.algebra.specs.Series.{ser, times, series}
 use Rattle.algebra.proofs.Rings.{ring-laws, zero-add, mul-zero}
 use Rattle.algebra.proofs.Series.{none-left}
 

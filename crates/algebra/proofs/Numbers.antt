@@ -1,13 +1,12 @@
 -- The laws of a field whose elements are numbered, from those of the numbers.
 use mathlib.Core.Path.{_≡_, refl, sym, ap, ap₂, _∙_}
-use mathlib.Core.Logic.{_⊎_, inl, inr}
+use mathlib.Core.Logic.{inl, inr}
 use Prim.Native.Nat.{ℕ, zero, suc, _^_, _<_, _≤_}
 use native.Mathlib.Omega.{arith}
-use lib.Dec.{ltb}
 use lib.Bits.{bitXor, xor-assoc, xor-comm, xor-self, xor-zero-r, xor-lt}
 use Rattle.std.proofs.shelf.Bits.{pow-pos}
 use Rattle.std.proofs.shelf.Tests.{cases-lt, lt-ltb, le-ltb}
-use Rattle.algebra.specs.Field.{Ops, Laws, Places}
+use Rattle.algebra.specs.Field.{Laws, Places}
 use Rattle.algebra.specs.Numbers.{within, ops-from, NumLaws}
 
 pub within-is : (b n : ℕ) → n < b → within b n ≡ n

@@ -1,5 +1,5 @@
 -- What the laws of a ring give.
-use mathlib.Core.Path.{_≡_, refl, sym, ap, _∙_}
+use mathlib.Core.Path.{_≡_, sym, ap, _∙_}
 use Rattle.algebra.specs.Field.{Ops, Laws}
 use Rattle.algebra.specs.Ring.{Ring, RingLaws, ring-of}
 

@@ -3,7 +3,7 @@ use mathlib.Core.Path.{_≡_, refl, sym, ap, ap₂, fun-ext, _∙_}
 use Prim.Native.Nat.{ℕ, zero, suc}
 use Rattle.algebra.specs.Ring.{Ring, RingLaws}
 use Rattle.algebra.specs.Series.{Series, tail, times, unit, series}
-use Rattle.algebra.proofs.Rings.{zero-add, mul-zero, zero-mul, add-mul, exchange}
+use Rattle.algebra.proofs.Rings.{zero-mul, add-mul, exchange}
 
 module _ {A : Type 0} {r : Ring A} (k : RingLaws r) where
   pub times-right : (n : ℕ) (p q s : Series A) → times r p (λ i. r .add (q i) (s i)) n ≡ r .add (times r p q n) (times r p s n)

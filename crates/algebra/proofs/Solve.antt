@@ -2,7 +2,7 @@
 use mathlib.Core.Path.{_≡_, refl, sym, ap, ap₂, _∙_}
 use mathlib.Core.Bool.{Bool, true, false}
 use mathlib.Core.List.{List, [], _∷_}
-use Prim.Native.Nat.{ℕ, zero, suc}
+use Prim.Native.Nat.{ℕ, zero}
 use lib.Dec.{T, leb, ltb, eqb, eqb→eq}
 use lib.ListN.{getD}
 use Rattle.algebra.specs.Ring.{Ring, RingLaws}

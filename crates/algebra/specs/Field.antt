@@ -21,6 +21,11 @@ pub record Laws {A : Type 0} (f : Ops A) : Type 0 where
   pub one-zero : f .one ≡ f .zero → ⊥
   pub mul-inv : (x : A) → (x ≡ f .zero → ⊥) → f .mul x (f .inv x) ≡ f .one
 
+-- every element has a square root
+pub record Roots {A : Type 0} (f : Ops A) : Type 0 where
+  pub root : A → A
+  pub squared : (x : A) → f .mul (root x) (root x) ≡ x
+
 -- 2^m elements, numbered. The numbers from 2^m on number nothing: each is read as 0 is.
 pub record Places (A : Type 0) (m : ℕ) : Type 0 where
   pub num : A → ℕ

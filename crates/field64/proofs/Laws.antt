@@ -1,16 +1,18 @@
 -- The laws of the field of 64.
-use mathlib.Core.Path.{_≡_, refl}
+use mathlib.Core.Path.{_≡_, refl, sym, ap, ap₂, _∙_}
 use Prim.Native.Nat.{ℕ, _<_}
 use lib.Dec.{lit<}
-use Rattle.algebra.specs.Field.{Laws}
-use Rattle.algebra.specs.Numbers.{NumLaws}
+use Rattle.algebra.specs.Field.{Laws, Roots}
+use Rattle.algebra.specs.Numbers.{within, NumLaws}
 use Rattle.algebra.specs.Shifts.{timesZ, timesBits}
 use Rattle.algebra.proofs.Linear.{linear-zero}
 use Rattle.algebra.proofs.Shifts.{times-left, times-right, times-below, comm, assoc, one}
-use Rattle.algebra.proofs.Numbers.{laws-from}
-use Rattle.field64.specs.Tables.{mul64, inv64}
-use Rattle.field64.specs.Model.{places64, ops64}
-use Rattle.field64.proofs.Tests.{inverse-rule, inverse-below}
+use Rattle.algebra.proofs.Numbers.{within-is, laws-from}
+use Rattle.field64.specs.Tables.{mul64, inv64, root64}
+use Rattle.field64.specs.Model.{at64, places64, ops64}
+use Rattle.field64.specs.declared.element.E64.{E64}
+use Rattle.field64.proofs.Elements.{is-at}
+use Rattle.field64.proofs.Tests.{inverse-rule, inverse-below, root-rule, root-below}
 
 pub below64 : (a b : ℕ) → a < 64 → mul64 a b < 64
 unfolding mul64
@@ -39,3 +41,10 @@ num-laws = record {
 
 pub laws64 : Laws ops64
 laws64 = laws-from places64 num-laws
+
+pub roots64 : Roots ops64
+roots64 = record { root = λ x. at64 (root64 (x .place)); squared = squared } where
+  squared : (x : E64) → ops64 .mul (at64 (root64 (x .place))) (at64 (root64 (x .place))) ≡ x
+  squared x =
+      let r : within 64 (root64 (x .place)) ≡ root64 (x .place) = within-is 64 (root64 (x .place)) (root-below (x .place) (x .below)) in
+      ap at64 (ap₂ mul64 r r ∙ root-rule (x .place) (x .below)) ∙ sym (is-at x (x .place) (x .below) refl)

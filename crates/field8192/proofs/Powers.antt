@@ -40,7 +40,7 @@ unfolding turn-test
 turn = agree (squares 13) (λ x. x) (squares-linear 13) (λ a b. refl) 13 (λ i h. eqb→eq (squares 13 (2 ^ i)) (2 ^ i) (at turn-test 13 turn-all i h))
 
 pub root : (a : ℕ) → a < 8192 → mul8192 (root8192 a) (root8192 a) ≡ a
-unfolding root8192 squares square8192
+unfolding squares square8192
 root a h = turn a h
 
 -- ---- the inverse

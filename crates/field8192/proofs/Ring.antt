@@ -1,7 +1,7 @@
 -- The laws of the product, on all numbers.
 use mathlib.Core.Path.{_≡_, sym, ap, _∙_}
 use Prim.Native.Nat.{ℕ, _%_, _<_}
-use native.Mathlib.Nat.{mod-lt, mod-mod, mod-eq-of-lt}
+use native.Mathlib.Nat.{mod-lt, mod-eq-of-lt}
 use lib.Bits.{xor-mod}
 use lib.Dec.{lit<}
 use Rattle.algebra.specs.Shifts.{timesZ, timesBits}
@@ -40,11 +40,6 @@ mul-left b a c = ap (λ (x : ℕ). mul x b) (xor-mod a c 13) ∙ times-left 12 2
 pub mul-right : (a : ℕ) → Linear (mul8192 a)
 unfolding mul8192
 mul-right a = times-right 12 225 13 (low a)
-
--- only the bits below 13 count
-pub mul-reads : (a b : ℕ) → mul8192 a b ≡ mul8192 (a % 8192) (b % 8192)
-unfolding mul8192
-mul-reads a b = ap (λ (x : ℕ). mul x b) (sym (mod-mod a 8192)) ∙ reads (low (low a)) b
 
 pub mul-below : (a b : ℕ) → mul8192 a b < 8192
 unfolding mul8192

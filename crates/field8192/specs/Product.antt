@@ -21,7 +21,7 @@ ones zero a = 1
 ones (suc n) a = mul8192 a (square8192 (ones n a))
 
 -- a^4096
-unfoldable pub root8192 : ℕ → ℕ
+abbrev pub root8192 : ℕ → ℕ
 root8192 a = squares 12 a
 
 -- a^8190, so zero at zero

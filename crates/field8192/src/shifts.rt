@@ -1,34 +1,33 @@
 // Products, inverses and square roots by shifts. Neither a branch nor a table depends on what is
 // multiplied, so that loops over many products are vectorised.
 ghost use mathlib.Core.Path.{_≡_};
-ghost use Prim.Native.Nat.{_<_, _^_};
+ghost use Prim.Native.Nat.{_<_};
 ghost use Rattle.field8192.specs.Product.{mul8192, square8192, inv8192, root8192};
 ghost use Rattle.field8192.specs.Folds.{carrylessBits, folded};
 
-// The product.
+// The product: the highest bit of b, and then the twelve below it, three at a time.
 pub(crate) fn times(a: u16, b: u16) -> u16
     requires { ⌜ a < 8192 ⌝ ∗ ⌜ b < 8192 ⌝ }
     ensures is { λ r. ⌜ r ≡ mul8192 a b ⌝ }
     ensures below { λ r. ⌜ r < 8192 ⌝ }
 {
-    fold(fold(carryless(a as u32, b as u32))) as u16
+    let mut r = a * (b >> 12);
+    for i in 0..4u16 {
+        r = fold(r * 8 ^ carryless(a, b >> (9 - 3 * i)));
+    }
+    r
 }
 
-// The product of polynomials, not yet reduced.
-fn carryless(a: u32, b: u32) -> u32
-    requires { ⌜ a < 8192 ⌝ ∗ ⌜ b < 8192 ⌝ }
-    ensures { λ r. ⌜ r ≡ carrylessBits 13 a b ⌝ }
+// The product of a and the lowest three bits of b, not reduced.
+fn carryless(a: u16, b: u16) -> u16
+    requires { ⌜ a < 8192 ⌝ }
+    ensures { λ r. ⌜ r ≡ carrylessBits 3 a b ⌝ }
 {
-    let mut t = 0;
-    for i in 0..13u32 {
-        t ^= a * (b & (1 << i));
-    }
-    t
+    a * (b & 1) ^ a * (b & 2) ^ a * (b & 4)
 }
 
 // The terms from z^13 on, by z^13 = z^7 + z^6 + z^5 + 1.
-fn fold(t: u32) -> u32
-    requires { ⌜ t < 2 ^ 25 ⌝ }
+fn fold(t: u16) -> u16
     ensures { λ r. ⌜ r ≡ folded t ⌝ }
 {
     let h = t / 8192;
@@ -64,7 +63,7 @@ pub(crate) fn root_of(a: u16) -> u16
     ensures below { λ r. ⌜ r < 8192 ⌝ }
 {
     let mut r = a;
-    for i in 0..12u8 {
+    for n in 0..12u8 {
         r = square(r);
     }
     r

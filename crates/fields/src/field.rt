@@ -3,7 +3,7 @@
 ghost use mathlib.Core.Path.{_≡_};
 ghost use Prim.Native.Nat.{ℕ, _^_, _<_, _≤_};
 ghost use Rattle.std.specs.Options.{Cases};
-ghost use Rattle.algebra.specs.Field.{Ops, Laws, Places};
+ghost use Rattle.algebra.specs.Field.{Ops, Laws, Roots, Places};
 use crate::degree::Fixed;
 
 // A commutative field of characteristic 2 with 2^m elements.
@@ -52,6 +52,8 @@ pub trait Field: Copy {
 
 // A field in which every element has a square root.
 pub trait BinaryField: Field {
+    law roots: { Roots (Self·Field .ops) };
+
     fn square_root(self) -> Self
         ensures { λ r. ⌜ Self·Field .ops .mul r r ≡ self ⌝ };
 }

@@ -1,20 +1,19 @@
 -- From coefficients to values.
-use mathlib.Core.Path.{_≡_, refl, sym, ap, ap₂, subst, fun-ext, _∙_}
+use mathlib.Core.Path.{_≡_, refl, sym, ap, ap₂, fun-ext, _∙_}
 use mathlib.Core.List.{List, [], _∷_, map}
-use Prim.Native.Nat.{ℕ, zero, suc, _+_, _-_, _≤_, _<_}
+use Prim.Native.Nat.{ℕ, zero, suc, _+_, _-_}
 use native.Mathlib.Omega.{arith}
-use lib.ListN.{length, getD}
 use Rattle.algebra.specs.Field.{Ops, Laws, Places}
 use Rattle.algebra.specs.Ring.{ring-of}
 use Rattle.algebra.specs.Poly.{sum, product, eval}
 use Rattle.algebra.specs.Series.{Series, tail, ser, Below}
-use Rattle.algebra.proofs.Rings.{ring-laws, zero-add, mul-zero, zero-mul}
+use Rattle.algebra.proofs.Rings.{ring-laws, zero-add, mul-zero}
 use Rattle.algebra.proofs.Eval.{eval-sum, eval-product}
 use Rattle.algebra.proofs.Lists.{ser-sum, ser-product}
-use Rattle.polys.specs.Coefs.{poly, coefs, Euclid}
+use Rattle.polys.specs.Coefs.{poly, coefs}
+use Rattle.polys.specs.Euclid.{Euclid}
 use Rattle.polys.specs.Values.{value, AtPoints}
 use Rattle.polys.proofs.Lists.{coefs-map}
-use Rattle.polys.proofs.Terms.{at-add}
 
 abbrev pub front : {A : Type 0} → ℕ → Series A → List A
 front zero p = []

@@ -2,15 +2,15 @@
 use mathlib.Core.Path.{_≡_, refl, sym, ap, ap₂, subst, fun-ext, _∙_}
 use mathlib.Core.List.{List, [], _∷_, map}
 use mathlib.Core.Logic.{_≢_}
-use Prim.Native.Nat.{ℕ, zero, suc, _+_, _-_, _≤_, _<_}
+use Prim.Native.Nat.{ℕ, zero, suc, _+_, _≤_, _<_}
 use native.Mathlib.Omega.{arith}
 use native.Mathlib.Decide.{decLe, decLt}
-use lib.ListN.{length, getD, set, take, drop, replicate, length-take, length-set}
+use lib.ListN.{length, getD, set, take, replicate, length-take}
 use lib.Seq.{getD-set-same, getD-set-other, getD-take}
-use Rattle.std.proofs.shelf.Lists.{getD-past, take-all}
+use Rattle.std.proofs.shelf.Lists.{getD-past}
 use Rattle.algebra.specs.Field.{Ops, Laws, Places}
 use Rattle.algebra.specs.Ring.{ring-of}
-use Rattle.algebra.specs.Series.{Series, ser, Below}
+use Rattle.algebra.specs.Series.{ser, Below}
 use Rattle.algebra.proofs.Rings.{ring-laws, zero-add}
 use Rattle.polys.specs.Coefs.{poly, coefs, mono}
 use Rattle.polys.proofs.Terms.{at-add, at-zero, mono-same, mono-other}

@@ -1,15 +1,16 @@
 -- Division, the greatest common divisor and the inverse have one result each.
 use mathlib.Core.Path.{_≡_, refl, sym, ap, ap₂, subst, fun-ext, _∙_}
-use mathlib.Core.List.{List, [], _∷_}
-use Prim.Native.Nat.{ℕ, zero, suc, _+_, _-_, _≤_, _<_}
+use mathlib.Core.List.{[], _∷_}
+use Prim.Native.Nat.{ℕ, zero, suc, _+_, _≤_}
 use native.Mathlib.Omega.{arith}
 use native.Mathlib.Decide.{decLe}
 use Rattle.algebra.specs.Field.{Ops, Laws}
-use Rattle.algebra.specs.Ring.{Ring, RingLaws, ring-of}
+use Rattle.algebra.specs.Ring.{ring-of}
 use Rattle.algebra.specs.Series.{Series, tail, times, Below, Degree}
 use Rattle.algebra.proofs.Rings.{ring-laws, mul-zero, zero-mul, zero-add}
-use Rattle.algebra.proofs.Solve.{Ex, v, o, i, _⊕_, _⊗_, solve}
-use Rattle.polys.specs.Coefs.{poly, Division, Gcd, Inverse, One-division, One-gcd, One-inverse}
+use Rattle.algebra.proofs.Solve.{v, i, _⊕_, _⊗_, solve}
+use Rattle.polys.specs.Coefs.{poly, Division, One-division}
+use Rattle.polys.specs.Euclid.{Gcd, One-gcd, One-inverse}
 use Rattle.polys.proofs.Terms.{poly-laws, at-add, at-zero, below-add, below-less}
 use Rattle.polys.proofs.Rule.{none-times, below-mul}
 

@@ -1,11 +1,11 @@
 -- A polynomial after a change of its coefficients from X^s on.
-use mathlib.Core.Path.{_≡_, refl, sym, ap, ap₂, subst, fun-ext, _∙_}
-use mathlib.Core.List.{List, [], _∷_, _++_}
-use Prim.Native.Nat.{ℕ, zero, suc, _+_, _-_, _≤_, _<_}
+use mathlib.Core.Path.{_≡_, refl, sym, ap, ap₂, fun-ext, _∙_}
+use mathlib.Core.List.{List}
+use Prim.Native.Nat.{ℕ, _+_, _-_, _≤_, _<_}
 use native.Mathlib.Omega.{arith}
 use native.Mathlib.Decide.{decLt}
 use borrow.Rule.Slice.PartMut.{putMid}
-use lib.ListN.{length, getD, take, drop, length-take, length-drop, List·getD-append}
+use lib.ListN.{length, getD, take, drop, length-drop, List·getD-append}
 use lib.Seq.{getD-take, getD-drop, length-take-le}
 use Rattle.std.proofs.shelf.Lists.{getD-past, getD-append-right, take-rest}
 use Rattle.algebra.specs.Field.{Ops, Laws, Places}
@@ -15,11 +15,11 @@ use Rattle.polys.proofs.Terms.{at-add, mono-high, mono-low}
 use Rattle.polys.proofs.Lists.{coefs-at}
 
 -- what stands in the whole: below s the old, from s on the new
-low-part : (xs ys : List ℕ) (s j : ℕ) → j < s → s ≤ length xs → getD (putMid s (length xs - s) xs ys) j 0 ≡ getD xs j 0
+pub low-part : (xs ys : List ℕ) (s j : ℕ) → j < s → s ≤ length xs → getD (putMid s (length xs - s) xs ys) j 0 ≡ getD xs j 0
 low-part xs ys s j h l =
     List·getD-append (take s xs) _ 0 j (omega (arith, length-take-le s xs l)) ∙ getD-take s xs j 0 h
 
-high-part : (xs ys : List ℕ) (s j : ℕ) → s ≤ j → s ≤ length xs → length ys ≡ length xs - s → getD (putMid s (length xs - s) xs ys) j 0 ≡ getD ys (j - s) 0
+pub high-part : (xs ys : List ℕ) (s j : ℕ) → s ≤ j → s ≤ length xs → length ys ≡ length xs - s → getD (putMid s (length xs - s) xs ys) j 0 ≡ getD ys (j - s) 0
 high-part xs ys s j h l e =
     getD-append-right (take s xs) _ s j 0 (length-take-le s xs l) h
     ∙ elim (decLt (j - s) (length ys)) [

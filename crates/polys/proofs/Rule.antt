@@ -1,16 +1,17 @@
 -- Euclid's rule: the start and a turn.
 use mathlib.Core.Path.{_≡_, refl, sym, ap, ap₂, subst, fun-ext, _∙_}
-use mathlib.Core.List.{List, [], _∷_}
+use mathlib.Core.List.{[], _∷_}
 use Prim.Native.Nat.{ℕ, zero, suc, _+_, _-_, _≤_, _<_}
 use native.Mathlib.Omega.{arith}
 use native.Mathlib.Decide.{decLt, decLe}
 use Rattle.algebra.specs.Field.{Ops, Laws}
-use Rattle.algebra.specs.Ring.{Ring, RingLaws, ring-of}
+use Rattle.algebra.specs.Ring.{ring-of}
 use Rattle.algebra.specs.Series.{Series, tail, times, Below, Degree}
 use Rattle.algebra.proofs.Rings.{ring-laws, mul-zero, zero-mul, zero-add}
-use Rattle.algebra.proofs.Solve.{Ex, v, o, i, _⊕_, _⊗_, solve}
-use Rattle.polys.specs.Coefs.{poly, mono, Lead, Reduced, Euclid, Gcd, Inverse, Shared}
-use Rattle.polys.proofs.Terms.{poly-laws, at-zero, at-add, mono-same, mono-other, mono-high, mono-mul, below-add, below-mono, below-wider}
+use Rattle.algebra.proofs.Solve.{v, o, i, _⊕_, _⊗_, solve}
+use Rattle.polys.specs.Coefs.{poly, mono, Lead}
+use Rattle.polys.specs.Euclid.{Reduced, Euclid, Gcd, Inverse, Shared}
+use Rattle.polys.proofs.Terms.{poly-laws, at-zero, mono-same, mono-other, mono-high, mono-mul, below-add, below-mono}
 
 module _ {A : Type 0} {f : Ops A} (k : Laws f) where
   pub none-times : (p q : Series A) (n : ℕ) → Below f 0 p → times (ring-of f) p q n ≡ f .zero

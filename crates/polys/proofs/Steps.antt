@@ -1,18 +1,17 @@
 -- One turn of each loop.
-use mathlib.Core.Path.{_≡_, refl, sym, ap, ap₂, subst, fun-ext, _∙_}
+use mathlib.Core.Path.{_≡_, refl, sym, ap, fun-ext, _∙_}
 use mathlib.Core.List.{List, [], _∷_}
 use Prim.Native.Nat.{ℕ, zero, suc, _+_, _-_, _≤_, _<_}
 use native.Mathlib.Omega.{arith}
 use native.Mathlib.Decide.{decLt}
 use lib.ListN.{length, getD, set, take, replicate}
 use Rattle.algebra.specs.Field.{Ops, Laws, Places}
-use Rattle.algebra.specs.Ring.{ring-of}
 use Rattle.algebra.specs.Series.{Series, Below, Degree}
 use Rattle.algebra.proofs.Rings.{ring-laws, mul-zero, zero-mul}
-use Rattle.algebra.proofs.Solve.{Ex, v, o, i, _⊕_, _⊗_, solve}
+use Rattle.algebra.proofs.Solve.{v, o, _⊕_, _⊗_, solve}
 use Rattle.polys.specs.Coefs.{poly, coefs, mono, Lead}
-use Rattle.polys.proofs.Terms.{poly-laws, at-add, at-zero, mono-high, mono-mul, below-add, below-mono, below-wider, below-less}
-use Rattle.polys.proofs.Lists.{write-add, write-new, coefs-at, coefs-none, coefs-zeros, take-more, below-list}
+use Rattle.polys.proofs.Terms.{poly-laws, at-add, at-zero, mono-high, mono-mul, below-add, below-mono, below-less}
+use Rattle.polys.proofs.Lists.{write-add, coefs-at, coefs-none, coefs-zeros, take-more, below-list}
 
 module _ {A : Type 0} {f : Ops A} (k : Laws f) {m : ℕ} (pl : Places A m) (z : pl .at 0 ≡ f .zero) where
   pub zero-below : (p : Series A) → Below f 0 p → p ≡ poly f .zero

@@ -6,7 +6,7 @@ use native.Mathlib.Omega.{arith}
 use native.Mathlib.Decide.{decLe}
 use Rattle.algebra.specs.Field.{Ops, Laws}
 use Rattle.algebra.specs.Ring.{RingLaws, ring-of}
-use Rattle.algebra.specs.Series.{Series, tail, times, series, Below}
+use Rattle.algebra.specs.Series.{Series, times, Below}
 use Rattle.algebra.proofs.Rings.{ring-laws, zero-add, mul-zero, zero-mul}
 use Rattle.algebra.proofs.Series.{series-laws, none-left}
 use Rattle.polys.specs.Coefs.{poly, mono}

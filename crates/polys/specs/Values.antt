@@ -5,6 +5,7 @@ use Prim.Native.Nat.{ℕ}
 use Rattle.algebra.specs.Field.{Ops, Places}
 use Rattle.algebra.specs.Poly.{eval}
 
+-- the value at x of the polynomial in a list
 unfoldable pub value : {A : Type 0} {m : ℕ} → Ops A → Places A m → List ℕ → A → A
 value f pl p x = eval f (map (pl .at) p) x
 

@@ -1,19 +1,16 @@
 // The arithmetic of polynomials.
 ghost use mathlib.Core.Path.{_≡_};
-ghost use mathlib.Core.Bool.{true, false};
-ghost use mathlib.Core.List.{map};
-ghost use Prim.Native.Nat.{ℕ, _+_, _-_, _^_, _<_, _≤_};
-ghost use lib.ListN.{length, getD, replicate};
+ghost use Prim.Native.Nat.{_+_, _-_, _<_, _≤_};
+ghost use lib.ListN.{length, replicate};
 ghost use Rattle.std.specs.Options.{Cases};
-ghost use Rattle.algebra.specs.Poly.{eval};
 ghost use Rattle.algebra.specs.Series.{Below, Degree};
-ghost use Rattle.polys.specs.Coefs.{poly, coefs, mono, Lead, Division, One-division};
+ghost use Rattle.polys.specs.Coefs.{poly, coefs, Placed, mono, Lead, Division, One-division};
 use fields::field::BinaryField;
 use fields::field::Field;
 use fields::is_zero;
 use fields::read;
 
-// Every coefficient zero.
+// Makes every coefficient zero.
 pub fn clear(p: &mut [u16])
     ensures { λ _. ⌜ now (p .exit) ≡ replicate (length (now (p .entry))) 0 ⌝ }
 {
@@ -42,7 +39,8 @@ pub fn degree<F: BinaryField>(p: &[u16]) -> Option<usize>
 // Adds p to a polynomial.
 pub fn add<F: BinaryField>(into: &mut [u16], p: &[u16])
     requires { ⌜ length (now p) ≤ length (now into) ⌝ }
-    ensures { λ _. ⌜ coefs (F·Field .places) (now (into .exit)) ≡ poly (F·Field .ops) .add (coefs (F·Field .places) (now (into .entry))) (coefs (F·Field .places) (now (p .entry))) ⌝ }
+    ensures is { λ _. ⌜ coefs (F·Field .places) (now (into .exit)) ≡ poly (F·Field .ops) .add (coefs (F·Field .places) (now (into .entry))) (coefs (F·Field .places) (now (p .entry))) ⌝ }
+    ensures placed { λ _. ⌜ (Placed (F·Field .bits) (now (into .entry)) → Placed (F·Field .bits) (now (into .exit))) ⌝ }
 {
     for i in 0..p.len() {
         let x = read::<F>(into[i]);
@@ -53,7 +51,8 @@ pub fn add<F: BinaryField>(into: &mut [u16], p: &[u16])
 // Adds c·p to a polynomial.
 pub fn add_multiple<F: BinaryField>(into: &mut [u16], p: &[u16], c: F)
     requires { ⌜ length (now p) ≤ length (now into) ⌝ }
-    ensures { λ _. ⌜ coefs (F·Field .places) (now (into .exit)) ≡ poly (F·Field .ops) .add (coefs (F·Field .places) (now (into .entry))) (poly (F·Field .ops) .mul (mono (F·Field .ops) c 0) (coefs (F·Field .places) (now (p .entry)))) ⌝ }
+    ensures is { λ _. ⌜ coefs (F·Field .places) (now (into .exit)) ≡ poly (F·Field .ops) .add (coefs (F·Field .places) (now (into .entry))) (poly (F·Field .ops) .mul (mono (F·Field .ops) c 0) (coefs (F·Field .places) (now (p .entry)))) ⌝ }
+    ensures placed { λ _. ⌜ (Placed (F·Field .bits) (now (into .entry)) → Placed (F·Field .bits) (now (into .exit))) ⌝ }
 {
     for i in 0..p.len() {
         let x = read::<F>(into[i]);
@@ -65,7 +64,8 @@ pub fn add_multiple<F: BinaryField>(into: &mut [u16], p: &[u16], c: F)
 // Adds c·X^shift·p to a polynomial.
 pub fn add_scaled<F: BinaryField>(into: &mut [u16], p: &[u16], c: F, shift: usize)
     requires { ⌜ shift + length (now p) ≤ length (now into) ⌝ }
-    ensures { λ _. ⌜ coefs (F·Field .places) (now (into .exit)) ≡ poly (F·Field .ops) .add (coefs (F·Field .places) (now (into .entry))) (poly (F·Field .ops) .mul (mono (F·Field .ops) c shift) (coefs (F·Field .places) (now (p .entry)))) ⌝ }
+    ensures is { λ _. ⌜ coefs (F·Field .places) (now (into .exit)) ≡ poly (F·Field .ops) .add (coefs (F·Field .places) (now (into .entry))) (poly (F·Field .ops) .mul (mono (F·Field .ops) c shift) (coefs (F·Field .places) (now (p .entry)))) ⌝ }
+    ensures placed { λ _. ⌜ (Placed (F·Field .bits) (now (into .entry)) → Placed (F·Field .bits) (now (into .exit))) ⌝ }
 {
     add_multiple(&mut into[shift..], p, c);
 }
@@ -73,7 +73,8 @@ pub fn add_scaled<F: BinaryField>(into: &mut [u16], p: &[u16], c: F, shift: usiz
 // The product of two polynomials.
 pub fn product<F: BinaryField>(out: &mut [u16], p: &[u16], q: &[u16])
     requires { ⌜ length (now p) + length (now q) ≤ length (now out) + 1 ⌝ }
-    ensures { λ _. ⌜ coefs (F·Field .places) (now (out .exit)) ≡ poly (F·Field .ops) .mul (coefs (F·Field .places) (now (p .entry))) (coefs (F·Field .places) (now (q .entry))) ⌝ }
+    ensures is { λ _. ⌜ coefs (F·Field .places) (now (out .exit)) ≡ poly (F·Field .ops) .mul (coefs (F·Field .places) (now (p .entry))) (coefs (F·Field .places) (now (q .entry))) ⌝ }
+    ensures placed { λ _. ⌜ Placed (F·Field .bits) (now (out .exit)) ⌝ }
 {
     clear(out);
     for i in 0..p.len() {
@@ -81,7 +82,7 @@ pub fn product<F: BinaryField>(out: &mut [u16], p: &[u16], q: &[u16])
     }
 }
 
-// The inverse of the highest coefficient.
+// The inverse of the leading coefficient.
 pub fn leading_inverse<F: BinaryField>(p: &[u16], n: usize) -> F
     requires { ⌜ n < length (now p) ⌝ ∗ ⌜ Degree (F·Field .ops) n (coefs (F·Field .places) (now p)) ⌝ }
     ensures is { λ r. ⌜ r ≡ F·Field .ops .inv (coefs (F·Field .places) (now (p .entry)) n) ⌝ }
@@ -93,10 +94,11 @@ pub fn leading_inverse<F: BinaryField>(p: &[u16], n: usize) -> F
     }
 }
 
-// Division with remainder: `rem` holds the dividend, and then the remainder. The degree of the divisor; absent where that is zero.
+// Division with remainder: `rem` holds the dividend, and then the remainder. The result is the
+// degree of the divisor; absent where the divisor is zero.
 pub fn divide<F: BinaryField>(rem: &mut [u16], quot: &mut [u16], d: &[u16]) -> Option<usize>
     requires { ⌜ length (now rem) ≤ length (now quot) ⌝ }
-    ensures { λ r. ⌜ Cases r ((coefs (F·Field .places) (now (d .entry)) ≡ poly (F·Field .ops) .zero) × (now (rem .exit) ≡ now (rem .entry)) × (now (quot .exit) ≡ now (quot .entry))) (λ n. Division (F·Field .ops) n (coefs (F·Field .places) (now (rem .entry))) (coefs (F·Field .places) (now (d .entry))) (coefs (F·Field .places) (now (quot .exit))) (coefs (F·Field .places) (now (rem .exit)))) ⌝ }
+    ensures { λ r. ⌜ Cases r ((coefs (F·Field .places) (now (d .entry)) ≡ poly (F·Field .ops) .zero) × (now (rem .exit) ≡ now (rem .entry)) × (now (quot .exit) ≡ now (quot .entry))) (λ n. Division (F·Field .ops) n (coefs (F·Field .places) (now (rem .entry))) (coefs (F·Field .places) (now (d .entry))) (coefs (F·Field .places) (now (quot .exit))) (coefs (F·Field .places) (now (rem .exit))) × Placed (F·Field .bits) (now (quot .exit)) × (Placed (F·Field .bits) (now (rem .entry)) → Placed (F·Field .bits) (now (rem .exit)))) ⌝ }
 {
     let Some(k) = degree::<F>(d) else {
         return None;
@@ -111,9 +113,10 @@ pub fn divide<F: BinaryField>(rem: &mut [u16], quot: &mut [u16], d: &[u16]) -> O
     Some(k)
 }
 
-// Every coefficient times c.
+// Multiplies every coefficient by c.
 pub fn scale<F: BinaryField>(p: &mut [u16], c: F)
-    ensures { λ _. ⌜ coefs (F·Field .places) (now (p .exit)) ≡ poly (F·Field .ops) .mul (mono (F·Field .ops) c 0) (coefs (F·Field .places) (now (p .entry))) ⌝ }
+    ensures is { λ _. ⌜ coefs (F·Field .places) (now (p .exit)) ≡ poly (F·Field .ops) .mul (mono (F·Field .ops) c 0) (coefs (F·Field .places) (now (p .entry))) ⌝ }
+    ensures placed { λ _. ⌜ Placed (F·Field .bits) (now (p .exit)) ⌝ }
 {
     for i in 0..p.len() {
         p[i] = c.product(read::<F>(p[i])).place();
@@ -123,7 +126,8 @@ pub fn scale<F: BinaryField>(p: &mut [u16], c: F)
 // Divides a polynomial of degree n by its leading coefficient.
 pub fn make_monic<F: BinaryField>(p: &mut [u16], n: usize)
     requires { ⌜ n < length (now p) ⌝ ∗ ⌜ Degree (F·Field .ops) n (coefs (F·Field .places) (now p)) ⌝ }
-    ensures { λ _. ⌜ coefs (F·Field .places) (now (p .exit)) ≡ poly (F·Field .ops) .mul (mono (F·Field .ops) (F·Field .ops .inv (coefs (F·Field .places) (now (p .entry)) n)) 0) (coefs (F·Field .places) (now (p .entry))) ⌝ }
+    ensures is { λ _. ⌜ coefs (F·Field .places) (now (p .exit)) ≡ poly (F·Field .ops) .mul (mono (F·Field .ops) (F·Field .ops .inv (coefs (F·Field .places) (now (p .entry)) n)) 0) (coefs (F·Field .places) (now (p .entry))) ⌝ }
+    ensures placed { λ _. ⌜ Placed (F·Field .bits) (now (p .exit)) ⌝ }
 {
     let e = leading_inverse::<F>(p, n);
     scale(p, e);

@@ -2,11 +2,11 @@
 // polynomial.
 ghost use mathlib.Core.Path.{_≡_};
 ghost use mathlib.Core.Bool.{true, false};
-ghost use Prim.Native.Nat.{ℕ, _+_, _-_, _<_, _≤_};
-ghost use lib.ListN.{length, getD};
-ghost use Rattle.std.specs.Options.{Cases};
+ghost use Prim.Native.Nat.{_+_, _-_, _<_, _≤_};
+ghost use lib.ListN.{length};
 ghost use Rattle.algebra.specs.Series.{Below, Degree};
-ghost use Rattle.polys.specs.Coefs.{poly, coefs, mono, Lead, Reduced, Euclid, Gcd, Inverse, Shared, One-gcd, One-inverse};
+ghost use Rattle.polys.specs.Coefs.{poly, coefs, Placed};
+ghost use Rattle.polys.specs.Euclid.{Reduced, Euclid, Gcd, Inverse, Shared, One-gcd, One-inverse};
 ghost use Rattle.polys.specs.Values.{value, AtPoints};
 use crate::arithmetic::add_scaled;
 use crate::arithmetic::clear;
@@ -41,7 +41,9 @@ pub fn reduce<F: BinaryField>(
     }
 }
 
-// Euclid's rule from s, of degree `top`, and r, of a lower one, up to the first remainder below X^stop, which r then holds; s holds the one before, a and b their factors. The degree of s.
+// Euclid's rule from s, of degree `top`, and r, of a lower one, up to the first remainder below
+// X^stop, which r then holds; s holds the one before, and a and b hold the factors of the first r in
+// them. The result is the degree of s.
 pub fn euclid<F: BinaryField>(
     s: &mut [u16],
     r: &mut [u16],
@@ -71,7 +73,8 @@ pub fn euclid<F: BinaryField>(
     n
 }
 
-// The greatest common divisor of s, of degree `top`, and r, of a lower one, in s: the coefficient at its degree is one. That degree.
+// The monic greatest common divisor of s, of degree `top`, and r, of a lower one, in s: where r is
+// zero, s made monic. The result is its degree.
 pub fn gcd<F: BinaryField>(
     s: &mut [u16],
     r: &mut [u16],
@@ -82,14 +85,16 @@ pub fn gcd<F: BinaryField>(
     requires fits { ⌜ top < length (now s) ⌝ ∗ ⌜ length (now r) ≡ length (now s) ⌝ ∗ ⌜ length (now b) ≡ length (now a) ⌝ ∗ ⌜ top < length (now a) ⌝ }
     requires degree { ⌜ Degree (F·Field .ops) top (coefs (F·Field .places) (now s)) ⌝ }
     requires under { ⌜ Below (F·Field .ops) top (coefs (F·Field .places) (now r)) ⌝ }
-    ensures { λ n. ⌜ Gcd (F·Field .ops) top n (coefs (F·Field .places) (now (s .entry))) (coefs (F·Field .places) (now (r .entry))) (coefs (F·Field .places) (now (s .exit))) ⌝ }
+    ensures is { λ n. ⌜ Gcd (F·Field .ops) top n (coefs (F·Field .places) (now (s .entry))) (coefs (F·Field .places) (now (r .entry))) (coefs (F·Field .places) (now (s .exit))) ⌝ }
+    ensures placed { λ _. ⌜ Placed (F·Field .bits) (now (s .exit)) ⌝ }
 {
     let n = euclid::<F>(s, r, a, b, top, 0);
     make_monic::<F>(s, n);
     n
 }
 
-// Whether r, of a degree below that of s, which is `top`, has an inverse modulo s; b then holds it.
+// Whether r, of a lower degree than s, has an inverse modulo s, whose degree is `top`; b then holds
+// it.
 pub fn inverse<F: BinaryField>(
     s: &mut [u16],
     r: &mut [u16],
@@ -100,7 +105,7 @@ pub fn inverse<F: BinaryField>(
     requires fits { ⌜ 1 ≤ top ⌝ ∗ ⌜ top < length (now s) ⌝ ∗ ⌜ length (now r) ≡ length (now s) ⌝ ∗ ⌜ length (now b) ≡ length (now a) ⌝ ∗ ⌜ top ≤ length (now a) ⌝ }
     requires degree { ⌜ Degree (F·Field .ops) top (coefs (F·Field .places) (now s)) ⌝ }
     requires under { ⌜ Below (F·Field .ops) top (coefs (F·Field .places) (now r)) ⌝ }
-    ensures { λ o. ⌜ elim o [ true ↦ Inverse (F·Field .ops) top (coefs (F·Field .places) (now (s .entry))) (coefs (F·Field .places) (now (r .entry))) (coefs (F·Field .places) (now (b .exit))) | false ↦ Shared (F·Field .ops) (coefs (F·Field .places) (now (s .entry))) (coefs (F·Field .places) (now (r .entry))) ] ⌝ }
+    ensures { λ o. ⌜ elim o [ true ↦ Inverse (F·Field .ops) top (coefs (F·Field .places) (now (s .entry))) (coefs (F·Field .places) (now (r .entry))) (coefs (F·Field .places) (now (b .exit))) × Placed (F·Field .bits) (now (b .exit)) | false ↦ Shared (F·Field .ops) (coefs (F·Field .places) (now (s .entry))) (coefs (F·Field .places) (now (r .entry))) ] ⌝ }
 {
     euclid::<F>(s, r, a, b, top, 1);
     let Some(e) = read::<F>(r[0]).inverse() else {

@@ -1,20 +1,24 @@
-use mathlib.Core.Path.{refl, sym, ap, ap₂, _∙_}
-use Prim.Native.Nat.{ℕ, _*_}
-use native.Mathlib.Numerals.{add-one}
+use Prim.Native.Nat.{_*_, _≤_}
 use native.Mathlib.Omega.{arith}
-use lib.Bits.{bitXor, bitAnd}
-use Rattle.std.proofs.shelf.Bits.{one-shl}
-use Rattle.field8192.specs.Folds.{carrylessBits}
-use Rattle.field8192.proofs.Quick.{term}
+use lib.Bits.{bitAnd, and-le-r}
+use Rattle.std.proofs.shelf.Bits.{mul-le}
+use Rattle.field8192.proofs.Quick.{three}
 use Rattle.field8192.proofs.shifts.carryless.Needs as need
 
-pub loop-i-holds : need.loop-i-holds
-unfolding carrylessBits
-loop-i-holds c = refl
+pub mul-result : need.mul-result
+mul-result c =
+    let h : c .args .a * bitAnd (c .args .b) 1 ≤ 8191 * 1 = mul-le (c .args .a) (bitAnd (c .args .b) 1) 8191 1 (omega arith) (and-le-r (c .args .b) 1) in
+    record { fits = omega arith }
 
-pub loop-i-again : need.loop-i-again
-unfolding carrylessBits
-loop-i-again c =
-    ap₂ bitXor (c .loop-i .inv)
-    (ap (λ (x : ℕ). c .args .a * bitAnd (c .args .b) x) (one-shl (c .loop-i .i) 32 (omega arith)) ∙ term (c .args .a) (c .args .b) (c .loop-i .i))
-    ∙ ap (λ (n : ℕ). carrylessBits n (c .args .a) (c .args .b)) (sym (add-one (c .loop-i .i)))
+pub mul-result-2 : need.mul-result-2
+mul-result-2 c =
+    let h : c .args .a * bitAnd (c .args .b) 2 ≤ 8191 * 2 = mul-le (c .args .a) (bitAnd (c .args .b) 2) 8191 2 (omega arith) (and-le-r (c .args .b) 2) in
+    record { fits = omega arith }
+
+pub mul-result-3 : need.mul-result-3
+mul-result-3 c =
+    let h : c .args .a * bitAnd (c .args .b) 4 ≤ 8191 * 4 = mul-le (c .args .a) (bitAnd (c .args .b) 4) 8191 4 (omega arith) (and-le-r (c .args .b) 4) in
+    record { fits = omega arith }
+
+pub returns : need.returns
+returns c = three (c .args .a) (c .args .b)

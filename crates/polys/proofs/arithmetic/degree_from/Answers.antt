@@ -1,7 +1,6 @@
-use mathlib.Core.Path.{_≡_, refl, sym, ap, _∙_}
-use Prim.Native.Nat.{ℕ, _+_, _-_, _≤_}
+use mathlib.Core.Path.{sym, _∙_}
+use Prim.Native.Nat.{_-_}
 use native.Mathlib.Omega.{arith}
-use Rattle.algebra.specs.Series.{Below}
 use Rattle.polys.specs.Coefs.{coefs}
 use Rattle.polys.proofs.Terms.{below-less}
 use Rattle.polys.proofs.Lists.{below-list, coefs-at}

@@ -1,4 +1,4 @@
-use mathlib.Core.Path.{_≡_, refl, sym, ap, _∙_}
+use mathlib.Core.Path.{_≡_, sym, _∙_}
 use Rattle.polys.specs.Coefs.{coefs}
 use Rattle.polys.proofs.Lists.{coefs-at}
 use Rattle.polys.proofs.arithmetic.leading_inverse.Needs as need

@@ -1,9 +1,10 @@
-use mathlib.Core.Path.{_≡_, sym, ap, _∙_}
-use Prim.Native.Nat.{ℕ, _<_, _≤_}
+use mathlib.Core.Path.{_≡_, _∙_}
+use Prim.Native.Nat.{_<_}
 use native.Mathlib.Omega.{arith}
 use lib.ListN.{length, getD}
 use Rattle.polys.proofs.Points.{below-set, above-set}
 use Rattle.polys.proofs.Steps.{scaled-all}
+use Rattle.polys.proofs.Places.{placed-all, number-below}
 use Rattle.polys.proofs.arithmetic.scale.Needs as need
 
 pub loop-i-again : need.loop-i-again
@@ -19,5 +20,9 @@ loop-i-again g c =
 
 pub returns : need.returns
 returns g c =
-    scaled-all (g .F·Field·met .laws) (g .F·Field .places) (g .F·Field·met .origin) (c .args .p .now) (c .loop-i .p) (c .args .c) (omega arith)
-    (λ j h. c .loop-i .inv .0 j (omega arith))
+    let pl = g .F·Field .places in
+    let inv = c .loop-i .inv .0 in
+    record {
+      is = scaled-all (g .F·Field·met .laws) pl (g .F·Field·met .origin) (c .args .p .now) (c .loop-i .p) (c .args .c) (omega arith) (λ j h. inv j (omega arith));
+      placed = placed-all (g .F·Field .bits) (c .loop-i .p) (λ j h. number-below pl (getD (c .loop-i .p) j 0) _ (inv j (omega arith)));
+    }

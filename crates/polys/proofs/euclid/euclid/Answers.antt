@@ -1,9 +1,10 @@
-use mathlib.Core.Path.{_≡_, refl, sym, ap, subst, _∙_}
-use Prim.Native.Nat.{ℕ, suc, _+_, _-_, _≤_, _<_}
+use mathlib.Core.Path.{ap, subst, _∙_}
+use Prim.Native.Nat.{_+_, _-_}
 use native.Mathlib.Omega.{arith}
-use lib.ListN.{length, getD, take}
-use Rattle.algebra.specs.Series.{Series, Below}
-use Rattle.polys.specs.Coefs.{poly, coefs, mono, Reduced, Euclid}
+use lib.ListN.{length, getD}
+use Rattle.algebra.specs.Series.{Series}
+use Rattle.polys.specs.Coefs.{coefs}
+use Rattle.polys.specs.Euclid.{Reduced}
 use Rattle.polys.proofs.Lists.{coefs-zeros, coefs-take, write-new, getD-zeros}
 use Rattle.polys.proofs.Rule.{euclid-none, euclid-more, euclid-swap, one-write, factor}
 use Rattle.polys.proofs.Bridge.{at-points}

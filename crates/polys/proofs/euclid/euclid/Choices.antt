@@ -1,7 +1,6 @@
-use mathlib.Core.Path.{_≡_}
 use Prim.Native.Nat.{_≤_}
-use lib.ListN.{length}
-use Rattle.polys.specs.Coefs.{coefs, Euclid}
+use Rattle.polys.specs.Coefs.{coefs}
+use Rattle.polys.specs.Euclid.{Euclid}
 use Rattle.polys.proofs.euclid.euclid.Given as given
 
 abbrev pub Inv-loop-k : given.InvT-loop-k

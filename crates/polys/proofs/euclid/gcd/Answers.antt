@@ -12,5 +12,8 @@ returns g c =
     let s = of (x .s) in
     let n = c .euclid-n .result in
     let top = got .rule .degree in
-    gcd-made k (c .args .top) (of (c .args .s .now)) (of (c .args .r .now)) s (of (x .r)) (of (x .a)) (of (x .b)) (of (c .make-monic .last .p)) n (f .inv (s n))
-    (got .rule) (got .last .1) (record { top = k .mul-inv (s n) (top .0); under = top .1 }) (c .make-monic .ensures)
+    record {
+      is = gcd-made k (c .args .top) (of (c .args .s .now)) (of (c .args .r .now)) s (of (x .r)) (of (x .a)) (of (x .b)) (of (c .make-monic .last .p)) n (f .inv (s n))
+          (got .rule) (got .last .1) (record { top = k .mul-inv (s n) (top .0); under = top .1 }) (c .make-monic .ensures .is);
+      placed = c .make-monic .ensures .placed;
+    }

@@ -1,5 +1,5 @@
-use mathlib.Core.Path.{_≡_, refl, sym, ap, subst, _∙_}
-use Prim.Native.Nat.{ℕ, suc, _+_, _-_, _≤_, _<_}
+use mathlib.Core.Path.{_≡_, sym, ap, subst, _∙_}
+use Prim.Native.Nat.{_+_, _-_}
 use native.Mathlib.Omega.{arith}
 use Rattle.algebra.specs.Series.{Series, Below}
 use Rattle.polys.specs.Coefs.{poly, coefs, mono}
@@ -22,12 +22,13 @@ loop-j-again g c =
     let S = coefs pl (c .loop-j .s) in
     let M = mono f (c .product-c .result) (j - K) in
     let front = coefs-take k pl z (c .args .r .now) (K + 1) (λ x h. got .under x (omega arith)) in
+    let put = c .add-scaled .ensures .is in
     let added : coefs pl (c .add-scaled .last .into) ≡ poly f .add S (poly f .mul M R) = cc in
     let by : c .product-c .result ≡ f .mul (c .read .result) (c .leading-inverse-e .result) = c .product-c .ensures in
     let read : c .product-c .result ≡ f .mul (S j) (c .leading-inverse-e .result) = by ∙ ap (λ x. f .mul x (c .leading-inverse-e .result)) (c .read .ensures ∙ sym (coefs-at k pl (c .loop-j .s) j)) in
     let less = drop-top k pl z S R K j (c .leading-inverse-e .result) (c .product-c .result) got (λ x h. inv .0 x (omega arith)) (omega arith) read in (
       subst (λ (p : Series (g .F .Denot)). Below f j p) (sym added) less,
-      reduced-more k (c .args .n + 1 - K) (coefs pl (c .args .s .now)) R (coefs pl (c .args .a .now)) (coefs pl (c .args .b .now)) S (coefs pl (c .loop-j .a)) _ _ (c .product-c .result) (j - K) (omega arith) (inv .1) added (c .add-scaled-in-loop-j .ensures),
+      reduced-more k (c .args .n + 1 - K) (coefs pl (c .args .s .now)) R (coefs pl (c .args .a .now)) (coefs pl (c .args .b .now)) S (coefs pl (c .loop-j .a)) _ _ (c .product-c .result) (j - K) (omega arith) (inv .1) added (c .add-scaled-in-loop-j .ensures .is),
     )
 
 pub loop-j-holds : need.loop-j-holds

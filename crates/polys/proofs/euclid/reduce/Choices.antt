@@ -1,6 +1,7 @@
 use Prim.Native.Nat.{_+_, _-_}
 use Rattle.algebra.specs.Series.{Below}
-use Rattle.polys.specs.Coefs.{coefs, Reduced}
+use Rattle.polys.specs.Coefs.{coefs}
+use Rattle.polys.specs.Euclid.{Reduced}
 use Rattle.polys.proofs.euclid.reduce.Given as given
 
 abbrev pub Inv-loop-j : given.InvT-loop-j
