@@ -20,15 +20,13 @@ use Rattle.patterson.proofs.Bounds.{few-s-zeros, few-v-zeros}
 use Rattle.patterson.proofs.Recovery.{zero-at-points, zero-only-at-points}
 
 module _ {A : Type 0} {f : Ops A} (k : Laws f) (dec : (x y : A) → Dec (x ≡ y)) (t : ℕ) (g s w : A → A)
-    (zs : List A) (sp : Splits f t g zs)
-    (w-is : (z : A) → In z zs → w z ≡ shifted f s z)
-    (n1 n2 : ℕ) (g1 g2 s1 v2 g12 : A → A) (h : Prepared f t g s w zs n1 n2 g1 g2 s1 v2 g12) where
+    (zs : List A) (sp : Splits f t g zs) (n1 n2 : ℕ) (g1 g2 s1 v2 g12 : A → A) (h : Prepared f t g s w zs n1 n2 g1 g2 s1 v2 g12) where
   -- where s is the syndrome of t points, the bounds on the degrees of a and b are not negative
   pub rooms : (r : SquareRoots f) (es : List A) → ErrorPoints f t s zs es → 2 ≤ t → (n1 < suc t / 2) × (n2 ≤ t / 2)
   rooms r es e two =
-      let z = sorted k dec t g s w zs sp w-is n1 n2 g1 g2 s1 v2 g12 h in
+      let z = sorted k dec t g s w zs sp n1 n2 g1 g2 s1 v2 g12 h in
       let a = few-s-zeros k dec r t s zs es (sp .differ) (sp .count) e (omega arith) (z .first) (z .first-distinct) (z .first-in) (z .first-zero) in
-      let b = few-v-zeros k dec r t s zs es (sp .differ) (sp .count) e two (z .second) (z .second-distinct) (z .second-in) (λ x m. sym (w-is x (z .second-in x m)) ∙ z .second-zero x m) in
+      let b = few-v-zeros k dec r t s zs es (sp .differ) (sp .count) e two (z .second) (z .second-distinct) (z .second-in) (λ x m. sym (h .v-is x (z .second-in x m)) ∙ z .second-zero x m) in
       (omega (arith, a, z .first-count), omega (arith, b, z .second-count))
 
   module _ (y : A → A) (root-of : RootOf f s w zs g1 g2 s1 v2 y)
@@ -50,14 +48,14 @@ module _ {A : Type 0} {f : Ops A} (k : Laws f) (dec : (x y : A) → Dec (x ≡ y
               ((((v 0 ⊗ v 1) ⊗ (v 0 ⊗ v 1)) ⊗ (v 2 ⊕ o)) ⊕ (((v 3 ⊗ (v 3 ⊗ v 4)) ⊗ v 5) ⊗ (v 4 ⊕ o))) refl)
           | no p ↦ elim (dec (w z) (f .zero)) [
             | yes e ↦
-                by-two k (f .mul (f .mul (a z) (found-even z)) (s z)) (f .mul (found-odd z) (found-odd z)) (h .v-divisor .zero-here z m e) (sym (w-is z m) ∙ e)
+                by-two k (f .mul (f .mul (a z) (found-even z)) (s z)) (f .mul (found-odd z) (found-odd z)) (h .v-divisor .zero-here z m e) (sym (h .v-is z m) ∙ e)
                 (ring k (a z ∷ g2 z ∷ s z ∷ b z ∷ g1 z ∷ shifted f s z ∷ [])
                 ((((v 0 ⊗ v 1) ⊗ (v 0 ⊗ v 1)) ⊗ v 2) ⊕ (((v 3 ⊗ v 4) ⊗ (v 3 ⊗ v 4)) ⊗ v 5))
                 ((((v 0 ⊗ (v 0 ⊗ v 1)) ⊗ v 2) ⊗ (v 1 ⊕ o)) ⊕ (((v 3 ⊗ v 4) ⊗ (v 3 ⊗ v 4)) ⊗ (v 5 ⊕ o))) refl)
             | no q ↦
-                let zero12 = g12-zero k dec t g s w zs sp w-is n1 n2 g1 g2 s1 v2 g12 h z m p q in
-                let es = s-exact k dec t g s w zs sp w-is n1 n2 g1 g2 s1 v2 g12 h z in
-                let ev = v-exact k dec t g s w zs sp w-is n1 n2 g1 g2 s1 v2 g12 h z in
+                let zero12 = g12-zero k dec t g s w zs sp n1 n2 g1 g2 s1 v2 g12 h z m p q in
+                let es = s-exact k dec t g s w zs sp n1 n2 g1 g2 s1 v2 g12 h z in
+                let ev = v-exact k dec t g s w zs sp n1 n2 g1 g2 s1 v2 g12 h z in
                 let quotients : f .mul (f .mul (found-even z) (found-even z)) (f .mul (s1 z) (g1 z)) ≡ f .mul (f .mul (found-odd z) (found-odd z)) (f .mul (v2 z) (g2 z)) =
                 by-two k (f .mul (f .add (f .mul (b z) (y z)) (a z)) (f .mul (f .mul (g2 z) (g2 z)) (f .mul (s1 z) (g1 z))))
                 (f .mul (f .mul (b z) (b z)) (f .mul (g1 z) (g2 z)))
@@ -66,7 +64,7 @@ module _ {A : Type 0} {f : Ops A} (k : Laws f) (dec : (x y : A) → Dec (x ≡ y
                 ((((v 0 ⊗ v 1) ⊗ (v 0 ⊗ v 1)) ⊗ (v 2 ⊗ v 4)) ⊕ (((v 3 ⊗ v 4) ⊗ (v 3 ⊗ v 4)) ⊗ (v 5 ⊗ v 1)))
                 (((((v 3 ⊗ v 6) ⊕ v 0) ⊗ ((v 1 ⊗ v 1) ⊗ (v 2 ⊗ v 4))) ⊗ ((v 3 ⊗ v 6) ⊕ v 0))
                 ⊕ (((v 3 ⊗ v 3) ⊗ (v 4 ⊗ v 1)) ⊗ (((v 6 ⊗ v 6) ⊗ (v 1 ⊗ v 2)) ⊕ (v 4 ⊗ v 5)))) refl) in
-                ap (f .mul (f .mul (found-even z) (found-even z))) es ∙ quotients ∙ ap (f .mul (f .mul (found-odd z) (found-odd z))) (sym ev ∙ w-is z m)
+                ap (f .mul (f .mul (found-even z) (found-even z))) es ∙ quotients ∙ ap (f .mul (f .mul (found-odd z) (found-odd z))) (sym ev ∙ h .v-is z m)
           ]
         ]
 
@@ -80,11 +78,11 @@ module _ {A : Type 0} {f : Ops A} (k : Laws f) (dec : (x y : A) → Dec (x ≡ y
 
       found-odd-some : n2 ≤ t / 2 → Vanishes f found-odd → ⊥
       found-odd-some l none =
-          let z = sorted k dec t g s w zs sp w-is n1 n2 g1 g2 s1 v2 g12 h in
+          let z = sorted k dec t g s w zs sp n1 n2 g1 g2 s1 v2 g12 h in
           let b-none : Vanishes f b =
           vanishes k (st .factor-poly) (z .third) (z .third-distinct) (omega (arith, st .room, z .third-count))
-          (λ x m. mul-nonzero k (g1-some k dec t g s w zs sp w-is n1 n2 g1 g2 s1 v2 g12 h x (z .third-in x m) (z .third-s x m)) (k .mul-comm (g1 x) (b x) ∙ none x)) in
-          factor-some k (t - (n1 + n2)) g12 y (z .third) (g12-splits k dec t g s w zs sp w-is n1 n2 g1 g2 s1 v2 g12 h)
+          (λ x m. mul-nonzero k (g1-some k dec t g s w zs sp n1 n2 g1 g2 s1 v2 g12 h x (z .third-in x m) (z .third-s x m)) (k .mul-comm (g1 x) (b x) ∙ none x)) in
+          factor-some k (t - (n1 + n2)) g12 y (z .third) (g12-splits k dec t g s w zs sp n1 n2 g1 g2 s1 v2 g12 h)
           n older a old-factor b st b-none
 
       pub complete : (r : SquareRoots f) (es : List A) → ErrorPoints f t s zs es → 2 ≤ t

@@ -1,7 +1,6 @@
 -- Elements of a binary field: no divisors of zero, squares are injective, and equations by combination of others.
 use mathlib.Core.Path.{_≡_, refl, sym, ap, ap₂, _∙_}
 use mathlib.Core.List.{List, [], _∷_}
-use mathlib.Core.Logic.{_⊎_, inl, inr}
 use Rattle.algebra.specs.Field.{Ops, Laws}
 use Rattle.algebra.specs.Ring.{ring-of}
 use Rattle.algebra.proofs.Rings.{ring-laws, zero-add, mul-zero, zero-mul}
@@ -49,9 +48,6 @@ module _ {A : Type 0} {f : Ops A} (k : Laws f) where
       cancel n (e ∙ sym (k .mul-inv x n))
 
   module _ (dec : (x y : A) → Dec (x ≡ y)) where
-    pub mul-zeros : {x y : A} → f .mul x y ≡ f .zero → (x ≡ f .zero) ⊎ (y ≡ f .zero)
-    mul-zeros {x} {y} e = elim (dec x (f .zero)) [ yes h ↦ inl h | no h ↦ inr (mul-nonzero h e) ]
-
     pub square-zero : {x : A} → f .mul x x ≡ f .zero → x ≡ f .zero
     square-zero {x} e = elim (dec x (f .zero)) [ yes h ↦ h | no h ↦ mul-nonzero h e ]
 

@@ -11,15 +11,11 @@ use Rattle.patterson.specs.Polys.{Poly}
 use Rattle.patterson.specs.Code.{SquareRoots}
 use Rattle.patterson.specs.Locator.{locator}
 use Rattle.patterson.specs.Syndrome.{Syndrome, KeyEquation}
-use Rattle.patterson.proofs.Elements.{ring, sum-zero, zero-sum, by-two, cancel, square-zero, square-injective, inverse-unique}
+use Rattle.patterson.proofs.Elements.{ring, sum-zero, zero-sum, by-two, cancel, square-zero, square-injective}
 use Rattle.patterson.proofs.Polys.{poly-add, poly-times, poly-wider, vanishes}
 use Rattle.patterson.proofs.Split.{even-part, odd-part, split-locator, odd-part-inverses}
 
 module _ {A : Type 0} {f : Ops A} (k : Laws f) where
-  -- a column of the check matrix, the inverse of X + α where g is zero, has there the inverse's value
-  pub column-value : (h : A → A) (α β : A) → f .mul (h β) (f .add β α) ≡ f .one → h β ≡ f .inv (f .add β α)
-  column-value h α β e = inverse-unique k (k .mul-comm (f .add β α) (h β) ∙ e)
-
   pub key-equation : (r : SquareRoots f) (s : A → A) (zs es : List A) → Syndrome f s zs es → ((β : A) → In β zs → In β es → ⊥) → KeyEquation f s zs (even-part r es) (odd-part r es)
   key-equation r s zs es y apart β m =
       by-two k (s β) (f .one) (split-locator k r es β) (odd-part-inverses k r es β (apart β m) ∙ ap (f .mul (locator f es β)) (sym (y β m)))

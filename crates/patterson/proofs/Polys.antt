@@ -15,7 +15,7 @@ use Rattle.algebra.proofs.Solve.{v, o, i, _⊕_, _⊗_}
 use Rattle.patterson.specs.Points.{In, Distinct}
 use Rattle.patterson.specs.Polys.{Poly, Vanishes}
 use Rattle.patterson.proofs.Points.{each-of}
-use Rattle.patterson.proofs.Elements.{ring, sum-zero, zero-sum}
+use Rattle.patterson.proofs.Elements.{ring, sum-zero}
 use Rattle.patterson.proofs.ZeroCount.{AllZero, many-zeros, eval-zeros, none-same}
 
 module _ {A : Type 0} (f : Ops A) where
@@ -105,11 +105,7 @@ module _ {A : Type 0} {f : Ops A} (k : Laws f) where
   pub few-zeros : {d : ℕ} {φ : A → A} → Poly f d φ → (Vanishes f φ → ⊥) → (xs : List A) → Distinct xs → ((x : A) → In x xs → φ x ≡ f .zero) → length xs < d
   few-zeros {d} p n xs u h = elim (decLe d (length xs)) [ yes l ↦ absurd (n (vanishes p xs u l h)) | no l ↦ omega arith ]
 
-  -- two polynomials below d with equal values at d different points
-  pub same-values : (d : ℕ) (φ ψ : A → A) → Poly f d φ → Poly f d ψ → (xs : List A) → Distinct xs → d ≤ length xs → ((x : A) → In x xs → φ x ≡ ψ x) → (x : A) → φ x ≡ ψ x
-  same-values d φ ψ p q xs u l h x = zero-sum k (vanishes (poly-add p q) xs u l (λ y m. sum-zero k (h y m)) x)
-
-  -- .. have equal coefficients
+  -- two polynomials below d with equal values at d different points have equal coefficients
   pub same-coefficients : (d : ℕ) (p q : List A) → length p ≤ d → length q ≤ d → (xs : List A) → Distinct xs → d ≤ length xs → ((x : A) → In x xs → eval f p x ≡ eval f q x)
       → (j : ℕ) → ser (ring-of f) p j ≡ ser (ring-of f) q j
   same-coefficients d p q lp lq xs u l h =

@@ -10,7 +10,6 @@ use Rattle.algebra.proofs.Rings.{ring-laws, mul-zero, zero-mul}
 use Rattle.algebra.proofs.Solve.{v, o, i, _⊕_, _⊗_}
 use Rattle.patterson.specs.Points.{In, Distinct}
 use Rattle.patterson.specs.Polys.{Vanishes, Splits}
-use Rattle.patterson.specs.Syndrome.{shifted}
 use Rattle.patterson.specs.Decoder.{Prepared}
 use Rattle.patterson.proofs.Points.{part, regroup, in-append, distinct-append}
 use Rattle.patterson.proofs.Elements.{ring, by-two, mul-nonzero, nonzero-mul}
@@ -36,13 +35,11 @@ pub record Sorted {A : Type 0} (f : Ops A) (s w : A → A) (zs : List A) (t n1 n
   pub third-v : (x : A) → In x third → w x ≡ f .zero → ⊥
 
 module _ {A : Type 0} {f : Ops A} (k : Laws f) (dec : (x y : A) → Dec (x ≡ y)) (t : ℕ) (g s w : A → A)
-    (zs : List A) (sp : Splits f t g zs)
-    (w-is : (z : A) → In z zs → w z ≡ shifted f s z)
-    (n1 n2 : ℕ) (g1 g2 s1 v2 g12 : A → A) (h : Prepared f t g s w zs n1 n2 g1 g2 s1 v2 g12) where
+    (zs : List A) (sp : Splits f t g zs) (n1 n2 : ℕ) (g1 g2 s1 v2 g12 : A → A) (h : Prepared f t g s w zs n1 n2 g1 g2 s1 v2 g12) where
   pub never-both : (z : A) → In z zs → s z ≡ f .zero → w z ≡ f .zero → ⊥
   never-both z m a b =
       k .one-zero
-      (by-two k (f .one) z (sym (w-is z m) ∙ b) a
+      (by-two k (f .one) z (sym (h .v-is z m) ∙ b) a
       (ring k (z ∷ s z ∷ []) (i ⊕ o) ((i ⊗ ((i ⊕ (v 0 ⊗ v 1)) ⊕ o)) ⊕ (v 0 ⊗ (v 1 ⊕ o))) refl))
 
   pub sorted : Sorted f s w zs t n1 n2

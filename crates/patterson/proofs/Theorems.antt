@@ -1,21 +1,21 @@
 -- The parts of the decoding theorem.
 use mathlib.Core.Path.{_≡_, refl, sym, ap, subst, _∙_}
 use mathlib.Core.Bool.{Bool, true, false}
-use mathlib.Core.List.{List, [], _∷_}
-use mathlib.Core.Option.{Option, none, some}
+use mathlib.Core.List.{List, _∷_}
+use mathlib.Core.Option.{none, some}
 use mathlib.Core.Logic.{inl, inr}
 use Prim.Native.Nat.{ℕ, suc, _≤_, _<_, _/_}
 use native.Mathlib.Omega.{arith}
 use lib.ListN.{length}
 use Rattle.algebra.specs.Field.{Ops, Laws}
 use Rattle.algebra.specs.Poly.{eval}
-use Rattle.patterson.specs.Points.{In, Distinct}
-use Rattle.patterson.specs.Polys.{Poly, Splits}
+use Rattle.patterson.specs.Points.{In}
+use Rattle.patterson.specs.Polys.{Poly}
 use Rattle.patterson.specs.Code.{Perfect, Support, GoppaCode}
 use Rattle.patterson.specs.Syndrome.{ErrorPoints}
 use Rattle.patterson.specs.Vectors.{chosen, marks}
-use Rattle.patterson.specs.Errors.{ErrorVector, Decodes, ErrorValues, Answers}
-use Rattle.patterson.specs.Claims.{Column-value, Syndrome-value, Key-equation, Any-solution, One-vector, Zero-syndrome, Euclid-start, Euclid-step, Euclid-end, Euclid-inverse, Bounds, Complete, Sound, Refuses, By-coefficients}
+use Rattle.patterson.specs.Errors.{ErrorVector, ErrorValues}
+use Rattle.patterson.specs.Claims.{Column-value, Syndrome-value, Key-equation, Any-solution, One-vector, Zero-syndrome, Euclid-start, Euclid-step, Euclid-end, Euclid-inverse, Rest-zeros, Invertible, Square-root, Key-root, Bounds, Complete, Sound, Refuses, By-coefficients, Decoding, Out-of-bounds}
 use Rattle.patterson.proofs.Points.{in-or-not}
 use Rattle.patterson.proofs.Polys.{few-zeros}
 use Rattle.patterson.proofs.Vectors.{chosen-in, chosen-distinct, length-chosen, marked}
@@ -25,7 +25,10 @@ use Rattle.patterson.proofs.KeyEquation.{key-equation}
 use Rattle.patterson.proofs.Recovery.{zero-at-points, zero-only-at-points}
 use Rattle.patterson.proofs.Unique.{unique}
 use Rattle.patterson.proofs.Euclid.{start, step, divisor}
-use Rattle.patterson.proofs.Inverse.{inverse-at}
+use Rattle.patterson.proofs.Inverse.{inverse-at, root-of}
+use Rattle.patterson.proofs.SquareRoot.{root-value}
+use Rattle.patterson.proofs.Elements.{nonzero-mul}
+use Rattle.patterson.proofs.Prepare.{sorted, g2-some, s1-some, g12-zero, g12-splits}
 use Rattle.patterson.proofs.Bounds.{few-s-zeros}
 use Rattle.patterson.proofs.Complete.{rooms, complete}
 
@@ -113,14 +116,37 @@ module _ {A : Type 0} {f : Ops A} (q : Perfect f) where
   euclid-inverse d p r zs sp nonzero n older newer old-factor factor st positive one =
       inverse-at (q .laws) (q .same) d p r zs sp nonzero n older newer old-factor factor st positive one (newer (f .zero)) refl
 
+  pub rest-zeros : Rest-zeros f
+  rest-zeros t g s v zs sp n1 n2 g1 g2 s1 v2 g12 h =
+      let z = sorted (q .laws) (q .same) t g s v zs sp n1 n2 g1 g2 s1 v2 g12 h in
+      record {
+        points = z .third;
+        splits = g12-splits (q .laws) (q .same) t g s v zs sp n1 n2 g1 g2 s1 v2 g12 h;
+        within = z .third-in;
+        s-nonzero = z .third-s;
+        v-nonzero = z .third-v;
+      }
+
+  pub invertible : Invertible f
+  invertible t g s v zs sp n1 n2 g1 g2 s1 v2 g12 h z m a b = (
+    g12-zero (q .laws) (q .same) t g s v zs sp n1 n2 g1 g2 s1 v2 g12 h z m a b,
+    nonzero-mul (q .laws) (g2-some (q .laws) (q .same) t g s v zs sp n1 n2 g1 g2 s1 v2 g12 h z m b) (s1-some (q .laws) (q .same) t g s v zs sp n1 n2 g1 g2 s1 v2 g12 h z m a),
+  )
+
+  pub square-root : Square-root f
+  square-root = root-value (q .laws)
+
+  pub key-root : Key-root f
+  key-root = root-of (q .laws)
+
   pub bounds : Bounds f
-  bounds t two g s v zs sup c v-is n1 n2 g1 g2 s1 v2 g12 h e he =
-      rooms (q .laws) (q .same) t g s v zs (c .splits) v-is n1 n2 g1 g2 s1 v2 g12 h (q .roots) (chosen e sup) (error-points t s zs sup (c .support) e he) two
+  bounds t two g s v zs sup c n1 n2 g1 g2 s1 v2 g12 h e he =
+      rooms (q .laws) (q .same) t g s v zs (c .splits) n1 n2 g1 g2 s1 v2 g12 h (q .roots) (chosen e sup) (error-points t s zs sup (c .support) e he) two
 
   pub decoder-complete : Complete f
-  decoder-complete t two g s v zs sup c v-is n1 n2 g1 g2 s1 v2 g12 a b h p m test e he =
+  decoder-complete t two g s v zs sup c n1 n2 g1 g2 s1 v2 g12 a b h p m test e he =
       let found =
-      complete (q .laws) (q .same) t g s v zs (c .splits) v-is n1 n2 g1 g2 s1 v2 g12 h (p .y) (p .root-of) (p .n) (p .older) a (p .old-factor) b (p .state) (p .low) (p .high)
+      complete (q .laws) (q .same) t g s v zs (c .splits) n1 n2 g1 g2 s1 v2 g12 h (p .y) (p .root-of) (p .n) (p .older) a (p .old-factor) b (p .state) (p .low) (p .high)
       (q .roots) (chosen e sup) (error-points t s zs sup (c .support) e he) two in
       marked m e sup (c .support .differ) (he .size)
       (λ x i b. found x .0 (test .0 x i b))
@@ -130,8 +156,8 @@ module _ {A : Type 0} {f : Ops A} (q : Perfect f) where
   decoder-sound t g s zs sup c e h = (h, λ d hd. one-vector t g s zs sup c d e hd h)
 
   pub decoder-refuses : Refuses f
-  decoder-refuses t two g s v zs sup c v-is n1 n2 g1 g2 s1 v2 g12 a b h p m test n d hd =
-      n (subst (ErrorValues f t s zs sup) (sym (decoder-complete t two g s v zs sup c v-is n1 n2 g1 g2 s1 v2 g12 a b h p m test d hd)) hd)
+  decoder-refuses t two g s v zs sup c n1 n2 g1 g2 s1 v2 g12 a b h p m test n d hd =
+      n (subst (ErrorValues f t s zs sup) (sym (decoder-complete t two g s v zs sup c n1 n2 g1 g2 s1 v2 g12 a b h p m test d hd)) hd)
 
   module _ (t : ℕ) (g s zs sup : List A) (c : GoppaCode f t (eval f g) zs sup) (lg : length g ≤ suc t) (ls : length s ≤ t) where
     pub values-of : (e : List Bool) → ErrorVector f g t s sup e → ErrorValues f t (eval f s) zs sup e
@@ -151,3 +177,16 @@ module _ {A : Type 0} {f : Ops A} (q : Perfect f) where
   pub by-coefficients : By-coefficients f
   by-coefficients t g s zs sup c lg ls none h = λ d w. h d (values-of t g s zs sup c lg ls d w)
   by-coefficients t g s zs sup c lg ls (some e) h = (vector-of t g s zs sup c lg ls e (h .0), λ d w. h .1 d (values-of t g s zs sup c lg ls d w))
+
+  pub decoding : Decoding f
+  decoding t two g s v zs sup c lg ls n1 n2 g1 g2 s1 v2 g12 a b h p m test =
+      let w = marks m sup in (
+        λ e. by-coefficients t g s zs sup c lg ls (some w) (decoder-sound t (eval f g) (eval f s) zs sup c w (values-of t g s zs sup c lg ls w e)),
+        λ n.
+            by-coefficients t g s zs sup c lg ls none
+            (decoder-refuses t two (eval f g) (eval f s) v zs sup c n1 n2 g1 g2 s1 v2 g12 a b h p m test (λ e. n (vector-of t g s zs sup c lg ls w e))),
+      )
+
+  pub out-of-bounds : Out-of-bounds f
+  out-of-bounds t two g s v zs sup c lg ls n1 n2 g1 g2 s1 v2 g12 h n d e =
+      n (bounds t two (eval f g) (eval f s) v zs sup c n1 n2 g1 g2 s1 v2 g12 h d (values-of t g s zs sup c lg ls d e))

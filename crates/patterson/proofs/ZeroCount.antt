@@ -1,5 +1,5 @@
 -- A polynomial with as many different zeros as coefficients is zero.
-use mathlib.Core.Path.{_≡_, refl, sym, ap, ap₂, _∙_}
+use mathlib.Core.Path.{_≡_, refl, sym, ap, _∙_}
 use mathlib.Core.List.{List, [], _∷_}
 use mathlib.Core.Logic.{inl, inr}
 use Prim.Native.Nat.{ℕ, zero, suc, _≤_}
@@ -11,7 +11,7 @@ use Rattle.algebra.specs.Poly.{sum, eval}
 use Rattle.algebra.specs.Series.{ser}
 use Rattle.algebra.proofs.Eval.{eval-none}
 use Rattle.algebra.proofs.Lists.{ser-sum}
-use Rattle.algebra.proofs.Rings.{ring-laws, zero-add, mul-zero}
+use Rattle.algebra.proofs.Rings.{ring-laws, zero-add}
 use Rattle.algebra.proofs.Solve.{v, o, _⊕_, _⊗_}
 use Rattle.patterson.specs.Points.{In, Distinct}
 use Rattle.patterson.proofs.Points.{Each}

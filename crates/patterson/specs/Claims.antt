@@ -3,20 +3,21 @@ use mathlib.Core.Path.{_≡_}
 use mathlib.Core.Bool.{Bool}
 use mathlib.Core.List.{List}
 use mathlib.Core.Option.{Option, none, some}
-use Prim.Native.Nat.{ℕ, suc, _+_, _-_, _/_, _≤_, _<_}
+use Prim.Native.Nat.{ℕ, suc, _-_, _/_, _≤_, _<_}
 use lib.ListN.{length}
 use Rattle.algebra.specs.Field.{Ops}
 use Rattle.algebra.specs.Poly.{eval}
 use Rattle.patterson.specs.Points.{In}
 use Rattle.patterson.specs.Polys.{Poly, Vanishes, Splits}
-use Rattle.patterson.specs.Code.{Perfect, GoppaCode}
+use Rattle.patterson.specs.Code.{SquareRoots, Perfect, GoppaCode}
 use Rattle.patterson.specs.Locator.{inverse-sum, from-parts}
 use Rattle.patterson.specs.Vectors.{chosen, marks}
 use Rattle.patterson.specs.Columns.{column, columns-sum}
-use Rattle.patterson.specs.Syndrome.{ErrorPoints, KeySolution, KeyEquation, shifted}
-use Rattle.patterson.specs.Errors.{ErrorValues, Answers, Decodes}
+use Rattle.patterson.specs.Syndrome.{ErrorPoints, KeySolution, KeyEquation}
+use Rattle.patterson.specs.Errors.{ErrorVector, Decodes, ErrorValues, Answers}
 use Rattle.patterson.specs.Euclid.{EuclidState, CommonDivisor}
-use Rattle.patterson.specs.Decoder.{Prepared, Stopped, candidate, ZeroTest}
+use Rattle.patterson.specs.SquareRoot.{even-roots, odd-roots}
+use Rattle.patterson.specs.Decoder.{Prepared, RestZeros, RootOf, Stopped, candidate, ZeroTest}
 
 -- in every field of characteristic 2 with square roots whose elements are those of A
 abbrev pub Over : (A : Type 0) → (Ops A → Type 0) → Type 0
@@ -76,17 +77,39 @@ Euclid-inverse {A} f = (d : ℕ) (p q : A → A) (zs : List A) → Splits f d p 
     → (n : ℕ) (older newer old-factor factor : A → A) → EuclidState f d p q n older newer old-factor factor → 0 < n → Poly f 1 newer
     → (z : A) → p z ≡ f .zero → f .mul (f .mul (f .inv (newer (f .zero))) (factor z)) (q z) ≡ f .one
 
+-- the zeros of g fall into n1 where s is zero, n2 where v is zero, and those of g12 ..
+abbrev pub Rest-zeros : {A : Type 0} → Ops A → Type 0
+Rest-zeros {A} f = (t : ℕ) (g s v : A → A) (zs : List A) → Splits f t g zs
+    → (n1 n2 : ℕ) (g1 g2 s1 v2 g12 : A → A) → Prepared f t g s v zs n1 n2 g1 g2 s1 v2 g12 → RestZeros f t s v zs n1 n2 g12
+
+-- .. at which g12 is zero, and g2·s1 is not
+abbrev pub Invertible : {A : Type 0} → Ops A → Type 0
+Invertible {A} f = (t : ℕ) (g s v : A → A) (zs : List A) → Splits f t g zs
+    → (n1 n2 : ℕ) (g1 g2 s1 v2 g12 : A → A) → Prepared f t g s v zs n1 n2 g1 g2 s1 v2 g12
+    → (z : A) → In z zs → (s z ≡ f .zero → ⊥) → (v z ≡ f .zero → ⊥) → (g12 z ≡ f .zero) × (f .mul (g2 z) (s1 z) ≡ f .zero → ⊥)
+
+-- a root of the value of p at x: w is a root of x
+abbrev pub Square-root : {A : Type 0} → Ops A → Type 0
+Square-root {A} f = (r : SquareRoots f) (p : List A) (x w : A) → f .mul w w ≡ x
+    → (y : A) → y ≡ f .add (eval f (even-roots r p) x) (f .mul w (eval f (odd-roots r p) x)) → f .mul y y ≡ eval f p x
+
+-- a root y of g1·v2 times the inverse of g2·s1 is the one that Euclid's rule is to begin with
+abbrev pub Key-root : {A : Type 0} → Ops A → Type 0
+Key-root {A} f = (s v : A → A) (zs : List A) (g1 g2 s1 v2 inverse u y : A → A)
+    → ((z : A) → In z zs → (s z ≡ f .zero → ⊥) → (v z ≡ f .zero → ⊥) → f .mul (inverse z) (f .mul (g2 z) (s1 z)) ≡ f .one)
+    → ((z : A) → In z zs → (s z ≡ f .zero → ⊥) → (v z ≡ f .zero → ⊥) → u z ≡ f .mul (inverse z) (f .mul (g1 z) (v2 z)))
+    → ((z : A) → In z zs → (s z ≡ f .zero → ⊥) → (v z ≡ f .zero → ⊥) → f .mul (y z) (y z) ≡ u z)
+    → RootOf f s v zs g1 g2 s1 v2 y
+
 -- if a vector of weight t has the syndrome s, then s is zero at less than half of the zeros of g, and v = 1 + X·s at half of them at most
 abbrev pub Bounds : {A : Type 0} → Ops A → Type 0
 Bounds {A} f = (t : ℕ) → 2 ≤ t → (g s v : A → A) (zs sup : List A) → GoppaCode f t g zs sup
-    → ((z : A) → In z zs → v z ≡ shifted f s z)
     → (n1 n2 : ℕ) (g1 g2 s1 v2 g12 : A → A) → Prepared f t g s v zs n1 n2 g1 g2 s1 v2 g12
     → (e : List Bool) → ErrorValues f t s zs sup e → (n1 < suc t / 2) × (n2 ≤ t / 2)
 
 -- the decoder is complete: if a vector of weight t has the syndrome s, then the zeros of the candidate in the support mark it
 abbrev pub Complete : {A : Type 0} → Ops A → Type 0
 Complete {A} f = (t : ℕ) → 2 ≤ t → (g s v : A → A) (zs sup : List A) → GoppaCode f t g zs sup
-    → ((z : A) → In z zs → v z ≡ shifted f s z)
     → (n1 n2 : ℕ) (g1 g2 s1 v2 g12 a b : A → A)
     → Prepared f t g s v zs n1 n2 g1 g2 s1 v2 g12 → Stopped f t s v zs n1 n2 g1 g2 s1 v2 g12 a b
     → (m : A → Bool) → ZeroTest f (candidate f g1 g2 a b) sup m
@@ -100,7 +123,6 @@ Sound {A} f = (t : ℕ) (g s : A → A) (zs sup : List A) → GoppaCode f t g zs
 -- .. and where the vector of the candidate's zeros has not both, there is none
 abbrev pub Refuses : {A : Type 0} → Ops A → Type 0
 Refuses {A} f = (t : ℕ) → 2 ≤ t → (g s v : A → A) (zs sup : List A) → GoppaCode f t g zs sup
-    → ((z : A) → In z zs → v z ≡ shifted f s z)
     → (n1 n2 : ℕ) (g1 g2 s1 v2 g12 a b : A → A)
     → Prepared f t g s v zs n1 n2 g1 g2 s1 v2 g12 → Stopped f t s v zs n1 n2 g1 g2 s1 v2 g12 a b
     → (m : A → Bool) → ZeroTest f (candidate f g1 g2 a b) sup m
@@ -110,3 +132,18 @@ Refuses {A} f = (t : ℕ) → 2 ≤ t → (g s v : A → A) (zs sup : List A) �
 abbrev pub By-coefficients : {A : Type 0} → Ops A → Type 0
 By-coefficients {A} f = (t : ℕ) (g s zs sup : List A) → GoppaCode f t (eval f g) zs sup → length g ≤ suc t → length s ≤ t
     → (r : Option (List Bool)) → Answers f t (eval f s) zs sup r → Decodes f g t s sup r
+
+-- the whole, by coefficients: the vector of the candidate's zeros is the answer where it has weight t and the syndrome s, and otherwise there is none
+abbrev pub Decoding : {A : Type 0} → Ops A → Type 0
+Decoding {A} f = (t : ℕ) → 2 ≤ t → (g s : List A) (v : A → A) (zs sup : List A) → GoppaCode f t (eval f g) zs sup → length g ≤ suc t → length s ≤ t
+    → (n1 n2 : ℕ) (g1 g2 s1 v2 g12 a b : A → A)
+    → Prepared f t (eval f g) (eval f s) v zs n1 n2 g1 g2 s1 v2 g12 → Stopped f t (eval f s) v zs n1 n2 g1 g2 s1 v2 g12 a b
+    → (m : A → Bool) → ZeroTest f (candidate f g1 g2 a b) sup m
+    → (ErrorVector f g t s sup (marks m sup) → Decodes f g t s sup (some (marks m sup)))
+    × ((ErrorVector f g t s sup (marks m sup) → ⊥) → Decodes f g t s sup none)
+
+-- and where the bounds do not hold, there is none
+abbrev pub Out-of-bounds : {A : Type 0} → Ops A → Type 0
+Out-of-bounds {A} f = (t : ℕ) → 2 ≤ t → (g s : List A) (v : A → A) (zs sup : List A) → GoppaCode f t (eval f g) zs sup → length g ≤ suc t → length s ≤ t
+    → (n1 n2 : ℕ) (g1 g2 s1 v2 g12 : A → A) → Prepared f t (eval f g) (eval f s) v zs n1 n2 g1 g2 s1 v2 g12
+    → ((n1 < suc t / 2) × (n2 ≤ t / 2) → ⊥) → Decodes f g t s sup none

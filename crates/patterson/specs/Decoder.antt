@@ -6,12 +6,15 @@ use mathlib.Core.List.{List}
 use Prim.Native.Nat.{ℕ, suc, _+_, _-_, _/_, _<_}
 use Rattle.algebra.specs.Field.{Ops}
 use Rattle.patterson.specs.Points.{In}
-use Rattle.patterson.specs.Polys.{Poly}
+use Rattle.patterson.specs.Polys.{Poly, Splits}
 use Rattle.patterson.specs.Locator.{from-parts}
+use Rattle.patterson.specs.Syndrome.{shifted}
 use Rattle.patterson.specs.Euclid.{EuclidState, CommonDivisor}
 
--- g1 and g2 divide g, s1 is s by g1, v2 is v by g2, and g12 is g by g1·g2; each division with its remainder
+-- v has the values of 1 + X·s at the zeros of g, g1 and g2 are the common divisors of g with s and with v, s1 is s by g1, v2 is v by g2, and g12 is
+-- g by g1·g2; each division with its remainder
 pub record Prepared {A : Type 0} (f : Ops A) (t : ℕ) (g s v : A → A) (zs : List A) (n1 n2 : ℕ) (g1 g2 s1 v2 g12 : A → A) : Type 0 where
+  pub v-is : (z : A) → In z zs → v z ≡ shifted f s z
   pub s-divisor : CommonDivisor f t g s zs n1 g1
   pub v-divisor : CommonDivisor f t g v zs n2 g2
   pub s-rest : A → A
@@ -23,6 +26,14 @@ pub record Prepared {A : Type 0} (f : Ops A) (t : ℕ) (g s v : A → A) (zs : L
   pub g-rest : A → A
   pub g-rest-poly : Poly f (n1 + n2) g-rest
   pub g-division : (x : A) → g x ≡ f .add (f .mul (g12 x) (f .mul (g1 x) (g2 x))) (g-rest x)
+
+-- the zeros of g at which neither s nor v is zero are the zeros of g12
+pub record RestZeros {A : Type 0} (f : Ops A) (t : ℕ) (s v : A → A) (zs : List A) (n1 n2 : ℕ) (g12 : A → A) : Type 0 where
+  pub points : List A
+  pub splits : Splits f (t - (n1 + n2)) g12 points
+  pub within : (z : A) → In z points → In z zs
+  pub s-nonzero : (z : A) → In z points → s z ≡ f .zero → ⊥
+  pub v-nonzero : (z : A) → In z points → v z ≡ f .zero → ⊥
 
 -- y² is v2·g1 by s1·g2 at the zeros of g at which neither s nor v is zero
 abbrev pub RootOf : {A : Type 0} → Ops A → (A → A) → (A → A) → List A → (g1 g2 s1 v2 y : A → A) → Type 0

@@ -7,5 +7,6 @@ pub mod Columns
 pub mod Syndrome
 pub mod Errors
 pub mod Euclid
+pub mod SquareRoot
 pub mod Decoder
 pub mod Claims
