@@ -85,6 +85,7 @@ module _ {A : Type 0} {f : Ops A} (k : Laws f) (dec : (x y : A) → Dec (x ≡ y
           factor-some k (t - (n1 + n2)) g12 y (z .third) (g12-splits k dec t g s w zs sp n1 n2 g1 g2 s1 v2 g12 h)
           n older a old-factor b st b-none
 
+      -- the candidate is zero at the points of the errors and nowhere else
       pub complete : (r : SquareRoots f) (es : List A) → ErrorPoints f t s zs es → 2 ≤ t
           → (x : A) → (from-parts f found-even found-odd x ≡ f .zero → In x es) × (In x es → from-parts f found-even found-odd x ≡ f .zero)
       complete r es e two x =

@@ -1,4 +1,4 @@
--- Euclid's algorithm: where it starts, that a step keeps what is known, and that the factor is never zero.
+-- Euclid's rule: where it starts, that a step keeps what is known, and that the factor is never zero.
 use mathlib.Core.Path.{_≡_, refl, sym, ap, ap₂, _∙_}
 use mathlib.Core.List.{List, [], _∷_}
 use Prim.Native.Nat.{ℕ, zero, suc, _-_, _≤_}
@@ -56,6 +56,7 @@ module _ {A : Type 0} {f : Ops A} (k : Laws f) where
 
   module _ (d : ℕ) (p q : A → A) (zs : List A) (sp : Splits f d p zs)
       (n : ℕ) (older newer old-factor factor : A → A) (st : EuclidState f d p q n older newer old-factor factor) where
+    -- else p would be a product of too low a degree for its zeros
     pub factor-some : Vanishes f factor → ⊥
     factor-some none =
         let off : (x : A) → f .mul (old-factor x) (newer x) ≡ p x =

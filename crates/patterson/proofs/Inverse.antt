@@ -1,4 +1,4 @@
--- Euclid's algorithm up to a constant remainder gives the inverse where p is zero.
+-- Euclid's rule up to a constant remainder gives the inverse where p is zero.
 use mathlib.Core.Path.{_≡_, refl, sym, _∙_}
 use mathlib.Core.List.{List, [], _∷_}
 use Prim.Native.Nat.{ℕ, zero, _<_}

@@ -16,6 +16,7 @@ use Rattle.patterson.proofs.Polys.{poly-add, poly-times, poly-wider, vanishes}
 use Rattle.patterson.proofs.Split.{even-part, odd-part, split-locator, odd-part-inverses}
 
 module _ {A : Type 0} {f : Ops A} (k : Laws f) where
+  -- the two parts of the locator of the points solve the equation of their syndrome
   pub key-equation : (r : SquareRoots f) (s : A → A) (zs es : List A) → Syndrome f s zs es → ((β : A) → In β zs → In β es → ⊥) → KeyEquation f s zs (even-part r es) (odd-part r es)
   key-equation r s zs es y apart β m =
       by-two k (s β) (f .one) (split-locator k r es β) (odd-part-inverses k r es β (apart β m) ∙ ap (f .mul (locator f es β)) (sym (y β m)))

@@ -1,4 +1,4 @@
--- Lists of points: from each to one and back, appended lists, and a list parted by a test.
+-- Lists of points: what holds at each, appended lists, and a list parted by a test.
 use mathlib.Core.Path.{_≡_, refl, sym, subst}
 use mathlib.Core.List.{List, [], _∷_, _++_}
 use mathlib.Core.Logic.{_⊎_, inl, inr}
@@ -13,10 +13,6 @@ Each P [] = Unit {0}
 Each P (x ∷ xs) = P x × Each P xs
 
 module _ {A : Type 0} where
-  pub each-at : (P : A → Type 0) (xs : List A) → Each P xs → (x : A) → In x xs → P x
-  each-at P [] h x m = absurd m
-  each-at P (y ∷ ys) h x m = elim m [ inl e ↦ subst P (sym e) (h .0) | inr n ↦ each-at P ys (h .1) x n ]
-
   pub each-of : (P : A → Type 0) (xs : List A) → ((x : A) → In x xs → P x) → Each P xs
   each-of P [] h = tt
   each-of P (y ∷ ys) h = (h y (inl refl), each-of P ys (λ x m. h x (inr m)))

@@ -102,6 +102,7 @@ module _ {A : Type 0} {f : Ops A} (k : Laws f) where
       let n : AllZero f (p .coefs) = many-zeros k xs d (p .coefs) (omega (arith, p .short)) (each-of (λ y. eval f (p .coefs) y ≡ f .zero) xs (λ y m. sym (p .value y) ∙ h y m)) in
       p .value x ∙ eval-zeros k (p .coefs) n x
 
+  -- a polynomial below d that is not zero everywhere has less than d zeros
   pub few-zeros : {d : ℕ} {φ : A → A} → Poly f d φ → (Vanishes f φ → ⊥) → (xs : List A) → Distinct xs → ((x : A) → In x xs → φ x ≡ f .zero) → length xs < d
   few-zeros {d} p n xs u h = elim (decLe d (length xs)) [ yes l ↦ absurd (n (vanishes p xs u l h)) | no l ↦ omega arith ]
 

@@ -18,7 +18,7 @@ use Rattle.patterson.specs.Errors.{ErrorVector, ErrorValues}
 use Rattle.patterson.specs.Claims.{Column-value, Syndrome-value, Key-equation, Any-solution, One-vector, Zero-syndrome, Euclid-start, Euclid-step, Euclid-end, Euclid-inverse, Rest-zeros, Invertible, Square-root, Key-root, Bounds, Complete, Sound, Refuses, By-coefficients, Decoding, Out-of-bounds}
 use Rattle.patterson.proofs.Points.{in-or-not}
 use Rattle.patterson.proofs.Polys.{few-zeros}
-use Rattle.patterson.proofs.Vectors.{chosen-in, chosen-distinct, length-chosen, marked}
+use Rattle.patterson.proofs.Vectors.{false-not-true, chosen-in, chosen-distinct, length-chosen, marked}
 use Rattle.patterson.proofs.Columns.{column-inverse, columns-value, syndrome-from, syndrome-to}
 use Rattle.patterson.proofs.Split.{even-part, odd-part, split-locator, split-polys}
 use Rattle.patterson.proofs.KeyEquation.{key-equation}
@@ -52,7 +52,7 @@ bit-true (no n) q = absurd (n q)
 
 true-bit : {P : Type 0} (d : Dec P) → bit d ≡ true → P
 true-bit (yes p) e = p
-true-bit (no n) e = absurd (let z : _≡_ {A = ℕ} 0 1 = ap (elim [ true ↦ 1 | false ↦ 0 ]) e in omega arith)
+true-bit (no n) e = absurd (false-not-true e)
 
 -- g has no zeros but its t, so none in the support
 off-support : {A : Type 0} {f : Ops A} (k : Laws f) (t : ℕ) (g zs sup : List A) → GoppaCode f t (eval f g) zs sup → length g ≤ suc t → (α : A) → In α sup → eval f g α ≡ f .zero → ⊥

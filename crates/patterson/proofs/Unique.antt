@@ -14,6 +14,7 @@ use Rattle.patterson.proofs.Recovery.{own-even, own-odd, zero-only-at-points}
 
 module _ {A : Type 0} {f : Ops A} (k : Laws f) (dec : (x y : A) → Dec (x ≡ y)) (r : SquareRoots f)
     (t : ℕ) (s : A → A) (zs : List A) (zs-differ : Distinct zs) (zs-count : length zs ≡ t) where
+  -- the points of one set are among those of any other with the same syndrome
   pub unique : (es ds : List A) → ErrorPoints f t s zs es → ErrorPoints f t s zs ds → (x : A) → In x ds → In x es
   unique es ds e d x m =
       zero-only-at-points k dec r t s zs es zs-differ zs-count e (even-part r ds) (odd-part r ds)

@@ -9,7 +9,7 @@ use lib.ListN.{length}
 use Rattle.patterson.specs.Points.{In, Distinct}
 use Rattle.patterson.specs.Vectors.{chosen, weight, marks}
 
-false-not-true : false ≡ true → ⊥
+pub false-not-true : false ≡ true → ⊥
 false-not-true h = let z : _≡_ {A = ℕ} 0 1 = ap (elim [ true ↦ 1 | false ↦ 0 ]) h in omega arith
 
 bit-of : (b c : Bool) → (b ≡ true → c ≡ true) → (c ≡ true → b ≡ true) → b ≡ c

@@ -27,6 +27,7 @@ module _ {A : Type 0} {f : Ops A} (k : Laws f) where
   length-quotient α [] = refl
   length-quotient α (c ∷ p) = ap suc (length-quotient α p)
 
+  -- division by X + α leaves the value at α
   pub factor : (α c : A) (p : List A) (x : A) → eval f (c ∷ p) x ≡ f .add (eval f (c ∷ p) α) (f .mul (f .add x α) (eval f (quotient-at f α p) x))
   factor α c [] x = ring k (α ∷ c ∷ x ∷ []) (v 1 ⊕ (v 2 ⊗ o)) ((v 1 ⊕ (v 0 ⊗ o)) ⊕ ((v 2 ⊕ v 0) ⊗ o)) refl
   factor α c (d ∷ p) x =
@@ -59,6 +60,7 @@ module _ {A : Type 0} {f : Ops A} (k : Laws f) where
     quotient-zeros α c p e xs (λ m. d (inr m)) (h .1),
   )
 
+  -- as many different zeros as coefficients: all coefficients are zero
   pub many-zeros : (xs : List A) → Distinct xs → (p : List A) → length p ≤ length xs → Each (λ x. eval f p x ≡ f .zero) xs → AllZero f p
   many-zeros xs d [] l h = tt
   many-zeros [] d (c ∷ p) l h = absurd (omega arith)

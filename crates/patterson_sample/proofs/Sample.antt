@@ -17,6 +17,7 @@ use Rattle.patterson.specs.Errors.{Decodes}
 use Rattle.patterson.specs.Euclid.{EuclidState, CommonDivisor}
 use Rattle.patterson.specs.Decoder.{Prepared, RootOf, Stopped, candidate, ZeroTest}
 use Rattle.patterson.proofs.Polys.{poly-const, poly-zero, poly-wider}
+use Rattle.patterson.proofs.Vectors.{false-not-true}
 use Rattle.patterson.proofs.Theorems.{euclid-start, euclid-step, euclid-end, decoding}
 use Rattle.patterson_sample.specs.Four.{Four, n0, n1, w1, w2, plus, times, four}
 use Rattle.patterson_sample.specs.Sample.{goppa, zeros, support, syndrome, both, one, itself, next}
@@ -164,15 +165,12 @@ at-zeros n1 = false
 at-zeros w1 = true
 at-zeros w2 = true
 
-false-not-true : {P : Type 0} → false ≡ true → P
-false-not-true h = absurd (let z : _≡_ {A = ℕ} 0 1 = ap (elim [ true ↦ 1 | false ↦ 0 ]) h in omega arith)
-
 test : ZeroTest four (candidate four one next one one) support at-zeros
 test = (sound, complete)
   where
     sound : (x : Four) → In x support → at-zeros x ≡ true → candidate four one next one one x ≡ n0
-    sound n0 m e = false-not-true e
-    sound n1 m e = false-not-true e
+    sound n0 m e = absurd (false-not-true e)
+    sound n1 m e = absurd (false-not-true e)
     sound w1 m e = refl
     sound w2 m e = refl
 
