@@ -1,8 +1,11 @@
--- The value of a sum and of a product of polynomials.
-use mathlib.Core.Path.{_≡_, sym, ap, _∙_}
+-- The value of a sum and of a product of polynomials, and of lists with the same coefficients.
+use mathlib.Core.Path.{_≡_, refl, sym, ap, ap₂, _∙_}
 use mathlib.Core.List.{List, [], _∷_}
+use Prim.Native.Nat.{ℕ, suc}
 use Rattle.algebra.specs.Field.{Ops, Laws}
+use Rattle.algebra.specs.Ring.{ring-of}
 use Rattle.algebra.specs.Poly.{sum, scale, product, eval}
+use Rattle.algebra.specs.Series.{ser}
 use Rattle.algebra.proofs.Rings.{ring-laws, zero-add, mul-zero, zero-mul, add-mul, exchange}
 
 module _ {A : Type 0} {f : Ops A} (k : Laws f) where
@@ -24,3 +27,14 @@ module _ {A : Type 0} {f : Ops A} (k : Laws f) where
   eval-product (x ∷ xs) q v =
       rw (eval-sum (scale f x q) (f .zero ∷ product f xs q) v, eval-scale x q v, zero-add (ring-laws k) (f .mul v (eval f (product f xs q) v)), eval-product xs q v, add-mul (ring-laws k) x (f .mul v (eval f xs v)) (eval f q v))
       (ap (f .add (f .mul x (eval f q v))) (sym (k .mul-assoc v (eval f xs v) (eval f q v))))
+
+  pub eval-none : (l : List A) (x : A) → ((j : ℕ) → ser (ring-of f) l j ≡ f .zero) → eval f l x ≡ f .zero
+  eval-none [] x h = refl
+  eval-none (y ∷ l) x h =
+      ap₂ (λ u w. f .add u (f .mul x w)) (h 0) (eval-none l x (λ j. h (suc j))) ∙ zero-add (ring-laws k) (f .mul x (f .zero)) ∙ mul-zero (ring-laws k) x
+
+  -- lists with the same coefficients, of whatever lengths
+  pub eval-same : (l m : List A) (x : A) → ((j : ℕ) → ser (ring-of f) l j ≡ ser (ring-of f) m j) → eval f l x ≡ eval f m x
+  eval-same [] m x h = sym (eval-none m x (λ j. sym (h j)))
+  eval-same (y ∷ l) [] x h = eval-none (y ∷ l) x h
+  eval-same (y ∷ l) (w ∷ m) x h = ap₂ (λ u t. f .add u (f .mul x t)) (h 0) (eval-same l m x (λ j. h (suc j)))

@@ -7,8 +7,8 @@ use Rattle.algebra.specs.Field.{Ops, Laws, Places}
 use Rattle.algebra.specs.Ring.{ring-of}
 use Rattle.algebra.specs.Poly.{sum, product, eval}
 use Rattle.algebra.specs.Series.{Series, tail, ser, Below}
-use Rattle.algebra.proofs.Rings.{ring-laws, zero-add, mul-zero}
-use Rattle.algebra.proofs.Eval.{eval-sum, eval-product}
+use Rattle.algebra.proofs.Rings.{ring-laws, zero-add, mul-zero, zero-mul}
+use Rattle.algebra.proofs.Eval.{eval-sum, eval-product, eval-same}
 use Rattle.algebra.proofs.Lists.{ser-sum, ser-product}
 use Rattle.polys.specs.Coefs.{poly, coefs}
 use Rattle.polys.specs.Euclid.{Euclid}
@@ -22,17 +22,6 @@ front (suc n) p = p 0 ∷ front n (tail p)
 module _ {A : Type 0} {f : Ops A} (k : Laws f) where
   abbrev of : List A → Series A
   of l = ser (ring-of f) l
-
-  eval-none : (l : List A) (x : A) → ((j : ℕ) → of l j ≡ f .zero) → eval f l x ≡ f .zero
-  eval-none [] x h = refl
-  eval-none (y ∷ l) x h =
-      ap₂ (λ u w. f .add u (f .mul x w)) (h 0) (eval-none l x (λ j. h (suc j))) ∙ zero-add (ring-laws k) (f .mul x (f .zero)) ∙ mul-zero (ring-laws k) x
-
-  -- lists with the same coefficients, of whatever lengths
-  pub eval-same : (l m : List A) (x : A) → ((j : ℕ) → of l j ≡ of m j) → eval f l x ≡ eval f m x
-  eval-same [] m x h = sym (eval-none m x (λ j. sym (h j)))
-  eval-same (y ∷ l) [] x h = eval-none (y ∷ l) x h
-  eval-same (y ∷ l) (w ∷ m) x h = ap₂ (λ u t. f .add u (f .mul x t)) (h 0) (eval-same l m x (λ j. h (suc j)))
 
   pub front-is : (n : ℕ) (p : Series A) → Below f n p → (j : ℕ) → of (front n p) j ≡ p j
   front-is zero p u j = sym (u j (omega arith))
@@ -49,7 +38,7 @@ module _ {A : Type 0} {f : Ops A} (k : Laws f) where
   -- the values of a·b + c·d
   pub eval-two : (l a b c d : List A) (x : A) → of l ≡ poly f .add (poly f .mul (of a) (of b)) (poly f .mul (of c) (of d)) → eval f l x ≡ f .add (f .mul (eval f a x) (eval f b x)) (f .mul (eval f c x) (eval f d x))
   eval-two l a b c d x e =
-      eval-same l (sum f (product f a b) (product f c d)) x (λ j. ap (λ (p : Series A). p j) e ∙ sym (ser-two a b c d j))
+      eval-same k l (sum f (product f a b) (product f c d)) x (λ j. ap (λ (p : Series A). p j) e ∙ sym (ser-two a b c d j))
       ∙ eval-sum k (product f a b) (product f c d) x ∙ ap₂ (f .add) (eval-product k a b x) (eval-product k c d x)
 
   ser-one : (a b : List A) (j : ℕ) → of (product f a b) j ≡ poly f .mul (of a) (of b) j
@@ -57,7 +46,7 @@ module _ {A : Type 0} {f : Ops A} (k : Laws f) where
   ser-one a b j = ap (λ (p : Series A). p j) (ser-product k a b)
 
   pub eval-times : (l a b : List A) (x : A) → of l ≡ poly f .mul (of a) (of b) → eval f l x ≡ f .mul (eval f a x) (eval f b x)
-  eval-times l a b x e = eval-same l (product f a b) x (λ j. ap (λ (p : Series A). p j) e ∙ sym (ser-one a b j)) ∙ eval-product k a b x
+  eval-times l a b x e = eval-same k l (product f a b) x (λ j. ap (λ (p : Series A). p j) e ∙ sym (ser-one a b j)) ∙ eval-product k a b x
 
   ser-division : (a b c : List A) (j : ℕ) → of (sum f (product f a b) c) j ≡ poly f .add (poly f .mul (of a) (of b)) (of c) j
   unfolding poly
@@ -66,7 +55,7 @@ module _ {A : Type 0} {f : Ops A} (k : Laws f) where
   -- the values of a·b + c
   pub eval-division : (l a b c : List A) (x : A) → of l ≡ poly f .add (poly f .mul (of a) (of b)) (of c) → eval f l x ≡ f .add (f .mul (eval f a x) (eval f b x)) (eval f c x)
   eval-division l a b c x e =
-      eval-same l (sum f (product f a b) c) x (λ j. ap (λ (p : Series A). p j) e ∙ sym (ser-division a b c j))
+      eval-same k l (sum f (product f a b) c) x (λ j. ap (λ (p : Series A). p j) e ∙ sym (ser-division a b c j))
       ∙ eval-sum k (product f a b) c x ∙ ap (λ (u : A). f .add u (eval f c x)) (eval-product k a b x)
 
   pub both : (p q u w : A) → u ≡ f .zero → w ≡ f .zero → f .add (f .mul p u) (f .mul q w) ≡ f .zero

@@ -1,0 +1,12 @@
+pub mod Points
+pub mod Polys
+pub mod Code
+pub mod Locator
+pub mod Vectors
+pub mod Columns
+pub mod Syndrome
+pub mod Errors
+pub mod Euclid
+pub mod SquareRoot
+pub mod Decoder
+pub mod Claims
