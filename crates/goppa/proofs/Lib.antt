@@ -1,3 +1,4 @@
 pub mod Linear
 pub mod Roots
 pub mod Quotients
+pub mod Support

@@ -1,10 +1,12 @@
 -- Products with X - a, by their coefficients.
-use mathlib.Core.Path.{_≡_, refl, sym, ap, ap₂, fun-ext, _∙_}
+use mathlib.Core.Path.{_≡_, refl, sym, ap, ap₂, subst, fun-ext, _∙_}
 use mathlib.Core.List.{List}
-use Prim.Native.Nat.{ℕ, zero, suc, _-_, _≤_, _<_}
+use Prim.Native.Nat.{ℕ, zero, suc, _-_, _^_, _≤_, _<_}
 use native.Mathlib.Omega.{arith}
 use native.Mathlib.Decide.{decLt}
 use lib.ListN.{length, getD}
+use lib.Pow.{pow-pos}
+use Rattle.std.proofs.shelf.Lists.{getD-past}
 use Rattle.algebra.specs.Field.{Ops, Laws, Places}
 use Rattle.algebra.specs.Series.{Series, Below}
 use Rattle.algebra.proofs.Rings.{ring-laws, zero-add, mul-zero, add-mul}
@@ -12,7 +14,14 @@ use Rattle.polys.specs.Coefs.{poly, coefs, mono}
 use Rattle.polys.proofs.Terms.{poly-laws, at-add, mono-high, mono-low}
 use Rattle.polys.proofs.Lists.{coefs-at, below-list}
 use Rattle.polys.proofs.Rule.{one-write}
-use Rattle.goppa.specs.Zeros.{linear}
+use Rattle.goppa.specs.Zeros.{linear, AllPlaces}
+
+-- what was written is numbers of elements
+pub all-written : {A : Type 0} {m : ℕ} (pl : Places A m) (l : List ℕ) (n : ℕ) (w : ℕ → A) → length l ≡ n → ((j : ℕ) → j < n → getD l j 0 ≡ pl .num (w j)) → AllPlaces m l
+all-written {m = m} pl l n w e h j = elim (decLt j n) [
+  | yes b ↦ subst (λ (x : ℕ). x < 2 ^ m) (sym (h j b)) (pl .num-below (w j))
+  | no b ↦ subst (λ (x : ℕ). x < 2 ^ m) (sym (getD-past l j 0 (omega arith))) (pow-pos m)
+]
 
 module _ {A : Type 0} {f : Ops A} (k : Laws f) where
   pub one-mono : mono f (f .one) 0 ≡ poly f .one

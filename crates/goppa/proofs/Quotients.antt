@@ -21,7 +21,7 @@ use Rattle.polys.proofs.Lists.{coefs-at, coefs-map, below-list}
 use Rattle.polys.proofs.One.{one-inverse}
 use Rattle.goppa.specs.Zeros.{linear}
 use Rattle.goppa.specs.Columns.{power, sumTo, overCoefficient, Column}
-use Rattle.goppa.proofs.Linear.{one-mono, linear-zero, linear-suc}
+use Rattle.goppa.proofs.Linear.{one-mono, linear-zero, linear-suc, all-written}
 
 module _ {A : Type 0} {f : Ops A} (k : Laws f) where
   sum-scale : (n : ℕ) (x : A) (h : ℕ → A) → f .mul x (sumTo f n h) ≡ sumTo f n (λ c. f .mul x (h c))
@@ -82,34 +82,36 @@ module _ {A : Type 0} {f : Ops A} (k : Laws f) where
         (ap (λ (p : Series A). p c) (coefs-map k pl z (drop (r + 1) g)) ∙ coefs-at k pl (drop (r + 1) g) c
         ∙ ap (pl .at) (getD-drop (r + 1) g c 0) ∙ sym (coefs-at k pl g (r + 1 + c))))
 
-    module _ (t : ℕ) (g q col : List ℕ) (a e : A) (long : length g ≡ t + 1) (pos : 1 ≤ t) (long-q : length q ≡ t) (long-col : length col ≡ t)
-        (got : (r : ℕ) → r < t → getD q r 0 ≡ pl .num (value f pl (drop (r + 1) g) a))
-        (off : value f pl g a ≡ f .zero → ⊥) (e-is : e ≡ f .inv (value f pl g a))
-        (scaled : coefs pl col ≡ poly f .mul (mono f e 0) (coefs pl q)) where
+    module _ (t : ℕ) (g col : List ℕ) (a e : A) (long : length g ≡ t + 1) (pos : 1 ≤ t) (long-col : length col ≡ t)
+        (got : (r : ℕ) → r < t → getD col r 0 ≡ pl .num (f .mul e (value f pl (drop (r + 1) g) a)))
+        (off : value f pl g a ≡ f .zero → ⊥) (e-is : e ≡ f .inv (value f pl g a)) where
       steps : Series A
       steps n = value f pl (drop n g) a
 
-      quotient-at : (r : ℕ) → coefs pl q r ≡ value f pl (drop (suc r) g) a
-      quotient-at r = elim (decLt r t) [
-        | yes l ↦ coefs-at k pl q r ∙ ap (pl .at) (got r l) ∙ pl .at-num (value f pl (drop (r + 1) g) a) ∙ ap (λ (n : ℕ). value f pl (drop n g) a) (add-one r)
-        | no l ↦ below-list k pl z q r (omega arith) ∙ sym (value-past g a (suc r) (omega arith))
+      whole-is : coefs pl g ≡ poly f .add (poly f .mul (linear f a) (tail steps)) (mono f (value f pl g a) 0)
+      unfolding steps
+      whole-is = whole (coefs pl g) steps a (value-step g a)
+
+      column-at : (r : ℕ) → coefs pl col r ≡ f .mul e (steps (suc r))
+      unfolding steps
+      column-at r = elim (decLt r t) [
+        | yes l ↦ coefs-at k pl col r ∙ ap (pl .at) (got r l) ∙ pl .at-num (f .mul e (value f pl (drop (r + 1) g) a)) ∙ ap (λ (n : ℕ). f .mul e (value f pl (drop n g) a)) (add-one r)
+        | no l ↦ below-list k pl z col r (omega arith) ∙ sym (ap (f .mul e) (value-past g a (suc r) (omega arith)) ∙ mul-zero (ring-laws k) e)
       ]
 
-      whole-is : coefs pl g ≡ poly f .add (poly f .mul (linear f a) (coefs pl q)) (mono f (value f pl g a) 0)
-      unfolding steps
-      whole-is =
-          whole (coefs pl g) steps a (value-step g a)
-          ∙ ap (λ (p : Series A). poly f .add (poly f .mul (linear f a) p) (mono f (value f pl g a) 0)) (fun-ext (λ r. sym (quotient-at r)))
+      scaled : coefs pl col ≡ poly f .mul (mono f e 0) (tail steps)
+      scaled = fun-ext (λ r. column-at r ∙ sym (mono-high k e 0 (tail steps) r r (omega arith)))
 
       inverse-is : Inverse f t (coefs pl g) (linear f a) (coefs pl col)
       inverse-is =
           let M = mono f e 0 in
           let N = mono f (value f pl g a) 0 in
-          let Q = coefs pl q in
+          let Q = tail steps in
           let L = linear f a in
           let back : f .mul e (value f pl g a) ≡ f .one = ap (λ (x : A). f .mul x (value f pl g a)) e-is ∙ k .mul-comm (f .inv (value f pl g a)) (value f pl g a) ∙ k .mul-inv (value f pl g a) off in
           let x₁ = whole-is in
           let x₂ : poly f .mul M N ≡ poly f .one = mono-mul k e (value f pl g a) 0 0 ∙ ap (λ (w : A). mono f w 0) back ∙ one-mono k in
+          let x₃ = scaled in
           let s = solve (poly-laws k) (M ∷ L ∷ Q ∷ N ∷ []) (v 0 ⊗ v 3) ((v 0 ⊗ ((v 1 ⊗ v 2) ⊕ v 3)) ⊕ ((v 0 ⊗ v 2) ⊗ v 1)) refl in
           record {
             short = λ j h. below-list k pl z col j (omega arith);
@@ -118,12 +120,17 @@ module _ {A : Type 0} {f : Ops A} (k : Laws f) where
             one = cc;
           }
 
-      pub column-is : Column f pl t g a (coefs pl col)
+      product-is : (r : ℕ) → coefs pl col r ≡ f .mul (overCoefficient f t (coefs pl g) a r) (f .inv (value f pl g a))
+      unfolding steps
+      product-is r =
+          column-at r ∙ k .mul-comm e (steps (suc r))
+          ∙ ap₂ (f .mul) (ap (λ (n : ℕ). value f pl (drop n g) a) (sym (add-one r)) ∙ over-value t r g a long) e-is
+
+      pub column-is : Column f pl t g a col
       column-is = record {
         off = off;
         inverse = inverse-is;
         unique = λ d p h. one-inverse k t (coefs pl g) (linear f a) p (coefs pl col) d h inverse-is;
-        product =
-            λ r h. ap (λ (p : Series A). p r) scaled ∙ mono-high k e 0 (coefs pl q) r r (omega arith) ∙ k .mul-comm e (coefs pl q r)
-            ∙ ap₂ (f .mul) (quotient-at r ∙ ap (λ (n : ℕ). value f pl (drop n g) a) (sym (add-one r)) ∙ over-value t r g a long) e-is;
+        product = λ r h. product-is r;
+        written = all-written pl col t (λ r. f .mul e (value f pl (drop (r + 1) g) a)) long-col got;
       }

@@ -2,14 +2,15 @@
 use mathlib.Core.Path.{_≡_}
 use mathlib.Core.Bool.{Bool}
 use mathlib.Core.List.{List}
-use Prim.Native.Nat.{ℕ, zero, suc, _+_, _-_, _*_, _/_, _%_, _^_, _<_}
+use Prim.Native.Nat.{ℕ, zero, suc, _+_, _-_, _/_, _%_, _^_, _<_}
 use lib.Dec.{eqb}
 use lib.ListN.{getD}
 use Rattle.algebra.specs.Field.{Ops, Places}
 use Rattle.algebra.specs.Series.{Series, Degree}
-use Rattle.polys.specs.Coefs.{poly, coefs, Inverse}
+use Rattle.polys.specs.Coefs.{coefs, Inverse}
 use Rattle.polys.specs.Values.{value}
-use Rattle.goppa.specs.Zeros.{linear}
+use Rattle.bits.specs.Vectors.{Vector}
+use Rattle.goppa.specs.Zeros.{linear, AllPlaces}
 
 abbrev pub power : {A : Type 0} → Ops A → A → ℕ → A
 power f x zero = f .one
@@ -24,17 +25,18 @@ sumTo f (suc n) h = f .add (h 0) (sumTo f n (λ i. h (suc i)))
 abbrev pub overCoefficient : {A : Type 0} → Ops A → ℕ → Series A → A → ℕ → A
 overCoefficient f t g a r = sumTo f (t - r) (λ c. f .mul (g (r + 1 + c)) (power f a c))
 
--- What a column is. The list g has the coefficients of a polynomial up to X^t, and q is the one polynomial below X^t whose product with X - a leaves 1 modulo g.
-pub record Column {A : Type 0} {m : ℕ} (f : Ops A) (pl : Places A m) (t : ℕ) (g : List ℕ) (a : A) (q : Series A) : Type 0 where
+-- What a column is: g has the coefficients of a polynomial up to X^t, and q those of the one polynomial below X^t whose product with X - a leaves 1 modulo g.
+pub record Column {A : Type 0} {m : ℕ} (f : Ops A) (pl : Places A m) (t : ℕ) (g : List ℕ) (a : A) (q : List ℕ) : Type 0 where
   pub off : value f pl g a ≡ f .zero → ⊥
-  pub inverse : Inverse f t (coefs pl g) (linear f a) q
-  pub unique : Degree f t (coefs pl g) → (p : Series A) → Inverse f t (coefs pl g) (linear f a) p → p ≡ q
-  pub product : (r : ℕ) → r < t → q r ≡ f .mul (overCoefficient f t (coefs pl g) a r) (f .inv (value f pl g a))
+  pub inverse : Inverse f t (coefs pl g) (linear f a) (coefs pl q)
+  pub unique : Degree f t (coefs pl g) → (p : Series A) → Inverse f t (coefs pl g) (linear f a) p → p ≡ coefs pl q
+  pub product : (r : ℕ) → r < t → coefs pl q r ≡ f .mul (overCoefficient f t (coefs pl g) a r) (f .inv (value f pl g a))
+  pub written : AllPlaces m q
 
--- bit i of a number
-abbrev pub bitOf : ℕ → ℕ → Bool
-bitOf n i = eqb (n / 2 ^ i % 2) 1
+-- bit i of a place has the weight 2^i
+abbrev pub placeBit : ℕ → ℕ → Bool
+placeBit place i = eqb (place / 2 ^ i % 2) 1
 
--- a column as bits: bit m·r + i is bit i of the place at r
-abbrev pub columnBits : ℕ → List ℕ → ℕ → Bool
-columnBits m places n = bitOf (getD places (n / m) 0) (n % m)
+-- a column as bits: each place fills m of them
+abbrev pub columnBits : ℕ → List ℕ → Vector
+columnBits m places j = placeBit (getD places (j / m) 0) (j % m)

@@ -1,7 +1,7 @@
 -- Monic polynomials from their zeros.
 use mathlib.Core.Path.{_≡_}
 use mathlib.Core.List.{List, [], _∷_}
-use Prim.Native.Nat.{ℕ, suc, _<_}
+use Prim.Native.Nat.{ℕ, suc, _^_, _<_}
 use lib.ListN.{length, getD}
 use Rattle.algebra.specs.Field.{Ops, Places}
 use Rattle.algebra.specs.Series.{Series, Below}
@@ -30,3 +30,7 @@ pub record Monic {A : Type 0} (f : Ops A) (n : ℕ) (p : Series A) : Type 0 wher
 pub record Zeros {A : Type 0} {m : ℕ} (f : Ops A) (pl : Places A m) (v : A → A) (zs : List ℕ) : Type 0 where
   pub each : (j : ℕ) → j < length zs → v (pl .at (getD zs j 0)) ≡ f .zero
   pub only : (x : A) → v x ≡ f .zero → (j : ℕ) × (j < length zs) × (x ≡ pl .at (getD zs j 0))
+
+-- every number is the place of an element
+abbrev pub AllPlaces : ℕ → List ℕ → Type 0
+AllPlaces m l = (j : ℕ) → getD l j 0 < 2 ^ m

@@ -3,36 +3,41 @@ ghost use mathlib.Core.Path.{_≡_};
 ghost use mathlib.Core.Bool.{true, false};
 ghost use Prim.Native.Nat.{ℕ, _+_, _-_, _<_, _≤_};
 ghost use lib.ListN.{length, getD, drop};
-ghost use Rattle.polys.specs.Coefs.{poly, coefs};
 ghost use Rattle.polys.specs.Values.{value};
-ghost use Rattle.goppa.specs.Columns.{Column};
+ghost use Rattle.goppa.specs.Columns.{Column, placeBit};
 use fields::field::BinaryField;
 use fields::field::Field;
 use fields::read;
-use polys::arithmetic::scale;
 use polys::values::value_at;
 
-// Writes the quotient of g by X - a: its coefficient of X^r is the value at a of what stands in g after place r.
-fn quotient<F: BinaryField>(g: &[u16], a: F, out: &mut [u16])
+// Writes e times the quotient of g by X - a. The quotient's coefficient of X^r is the value at a of what stands in g after place r.
+fn scaled_quotient<F: BinaryField>(g: &[u16], a: F, e: F, out: &mut [u16])
     requires { ⌜ length (now g) ≡ length (now out) + 1 ⌝ }
-    ensures { λ _. ⌜ ((r : ℕ) → r < length (now (out .entry)) → getD (now (out .exit)) r 0 ≡ F·Field .places .num (value (F·Field .ops) (F·Field .places) (drop (r + 1) (now (g .entry))) a)) ⌝ }
+    ensures { λ _. ⌜ ((r : ℕ) → r < length (now (out .entry)) → getD (now (out .exit)) r 0 ≡ F·Field .places .num (F·Field .ops .mul e (value (F·Field .ops) (F·Field .places) (drop (r + 1) (now (g .entry))) a))) ⌝ }
 {
     let mut q = F::zero();
     for r in (0..out.len()).rev() {
         q = read::<F>(g[r + 1]).sum(a.product(q));
-        out[r] = q.place();
+        out[r] = e.product(q).place();
     }
 }
 
 // Writes the inverse of X - a modulo g. It has none where g is zero at a, and only there: `out` then stays.
 pub fn column<F: BinaryField>(g: &[u16], a: F, out: &mut [u16]) -> bool
     requires { ⌜ length (now g) ≡ length (now out) + 1 ⌝ ∗ ⌜ 1 ≤ length (now out) ⌝ }
-    ensures { λ o. ⌜ elim o [ true ↦ Column (F·Field .ops) (F·Field .places) (length (now (out .entry))) (now (g .entry)) a (coefs (F·Field .places) (now (out .exit))) | false ↦ (value (F·Field .ops) (F·Field .places) (now (g .entry)) a ≡ F·Field .ops .zero) × (now (out .exit) ≡ now (out .entry)) ] ⌝ }
+    ensures { λ o. ⌜ elim o [ true ↦ Column (F·Field .ops) (F·Field .places) (length (now (out .entry))) (now (g .entry)) a (now (out .exit)) | false ↦ (value (F·Field .ops) (F·Field .places) (now (g .entry)) a ≡ F·Field .ops .zero) × (now (out .exit) ≡ now (out .entry)) ] ⌝ }
 {
     let Some(e) = value_at(g, a).inverse() else {
         return false;
     };
-    quotient(g, a, out);
-    scale(out, e);
+    scaled_quotient(g, a, e, out);
     true
+}
+
+// Bit i of a place, of weight 2^i.
+pub fn place_bit(place: u16, i: u32) -> bool
+    requires { ⌜ i < 16 ⌝ }
+    ensures { λ r. ⌜ r ≡ placeBit place i ⌝ }
+{
+    (place >> i) & 1 == 1
 }

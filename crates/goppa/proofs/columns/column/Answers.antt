@@ -12,7 +12,9 @@ pub returns : need.returns
 returns g c =
     let f = g .F·Field .ops in
     let here = c .in-Some .ensures tt in
-    let at = c .value-at .ensures in
-    column-is (g .F·Field·met .laws) (g .F·Field .places) (g .F·Field·met .origin) (length (c .args .out .now)) (c .args .g .now) (c .quotient .last .out) (c .scale .last .p) (c .args .a) (c .in-Some .e)
-    (c .pre .0) (c .pre .1) (omega arith) (omega arith) (c .quotient .ensures)
-    (λ e. here .0 (at ∙ e)) (here .1 ∙ ap (f .inv) at) (c .scale .ensures)
+    let is = here .1 in
+    let v = value f (g .F·Field .places) (c .args .g .now) (c .args .a) in
+    let at : c .value-at .result ≡ v = c .value-at .ensures in
+    column-is (g .F·Field·met .laws) (g .F·Field .places) (g .F·Field·met .origin) (length (c .args .out .now)) (c .args .g .now) (c .scaled-quotient .last .out) (c .args .a) (c .in-Some .e)
+    (c .pre .0) (c .pre .1) (omega arith) (c .scaled-quotient .ensures)
+    (λ e. here .0 (cc)) (cc)

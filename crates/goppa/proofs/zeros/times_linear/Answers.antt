@@ -7,7 +7,7 @@ use Rattle.polys.specs.Coefs.{poly, coefs, mono}
 use Rattle.polys.proofs.Lists.{coefs-at}
 use Rattle.polys.proofs.Points.{below-set, above-set}
 use Rattle.goppa.specs.Zeros.{linear}
-use Rattle.goppa.proofs.Linear.{shift-zero, shift-suc, linear-at, linear-all}
+use Rattle.goppa.proofs.Linear.{shift-zero, shift-suc, linear-at, linear-all, all-written}
 use Rattle.goppa.proofs.zeros.times_linear.Needs as need
 
 pub loop-i-holds : need.loop-i-holds
@@ -37,5 +37,12 @@ loop-i-again g c =
 
 pub returns : need.returns
 returns g c =
-    linear-all (g .F·Field·met .laws) (g .F·Field .places) (g .F·Field·met .origin) (c .args .a) (c .args .p .now) (c .loop-i .p) (c .pre .0) (omega arith) (c .pre .1)
-    (λ j h. c .loop-i .inv .0 j (omega arith))
+    let pl = g .F·Field .places in
+    record {
+      product =
+          linear-all (g .F·Field·met .laws) pl (g .F·Field·met .origin) (c .args .a) (c .args .p .now) (c .loop-i .p) (c .pre .0) (omega arith) (c .pre .1)
+          (λ j h. c .loop-i .inv .0 j (omega arith));
+      written =
+          all-written pl (c .loop-i .p) (length (c .args .p .now)) (poly (g .F·Field .ops) .mul (linear (g .F·Field .ops) (c .args .a)) (coefs pl (c .args .p .now))) (omega arith)
+          (λ j h. c .loop-i .inv .0 j (omega arith));
+    }
