@@ -14,7 +14,8 @@ use Rattle.algebra.specs.Poly.{eval}
 use Rattle.algebra.specs.Series.{Series, tail, ser, Below, Degree}
 use Rattle.algebra.proofs.Rings.{ring-laws, zero-add, mul-zero}
 use Rattle.algebra.proofs.Solve.{Ex, v, o, i, _⊕_, _⊗_, solve}
-use Rattle.polys.specs.Coefs.{poly, coefs, mono, Inverse}
+use Rattle.polys.specs.Coefs.{poly, coefs, mono}
+use Rattle.polys.specs.Euclid.{Inverse}
 use Rattle.polys.specs.Values.{value}
 use Rattle.polys.proofs.Terms.{poly-laws, at-add, mono-same, mono-other, mono-high, mono-mul}
 use Rattle.polys.proofs.Lists.{coefs-at, coefs-map, below-list}

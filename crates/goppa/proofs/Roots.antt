@@ -16,7 +16,8 @@ use Rattle.algebra.proofs.Solve.{Ex, v, o, i, _⊕_, _⊗_, solve}
 use Rattle.polys.specs.Coefs.{poly, coefs, mono}
 use Rattle.polys.specs.Values.{value}
 use Rattle.polys.proofs.Lists.{coefs-map}
-use Rattle.polys.proofs.Bridge.{front, ser-front, eval-same, eval-times}
+use Rattle.algebra.proofs.Eval.{eval-same}
+use Rattle.polys.proofs.Bridge.{front, ser-front, eval-times}
 use Rattle.goppa.specs.Zeros.{linear, fromZeros, differences, Monic, Zeros}
 use Rattle.goppa.proofs.Linear.{linear-suc, linear-below}
 

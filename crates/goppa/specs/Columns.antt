@@ -7,7 +7,8 @@ use lib.Dec.{eqb}
 use lib.ListN.{getD}
 use Rattle.algebra.specs.Field.{Ops, Places}
 use Rattle.algebra.specs.Series.{Series, Degree}
-use Rattle.polys.specs.Coefs.{coefs, Inverse}
+use Rattle.polys.specs.Coefs.{coefs}
+use Rattle.polys.specs.Euclid.{Inverse}
 use Rattle.polys.specs.Values.{value}
 use Rattle.bits.specs.Vectors.{Vector}
 use Rattle.goppa.specs.Zeros.{linear, AllPlaces}
