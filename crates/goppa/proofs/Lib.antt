@@ -2,3 +2,4 @@ pub mod Linear
 pub mod Roots
 pub mod Quotients
 pub mod Support
+pub mod Matrices

@@ -1,16 +1,13 @@
 -- The columns: inverses of X - a modulo a polynomial.
 use mathlib.Core.Path.{_≡_}
-use mathlib.Core.Bool.{Bool}
 use mathlib.Core.List.{List}
 use Prim.Native.Nat.{ℕ, zero, suc, _+_, _-_, _/_, _%_, _^_, _<_}
-use lib.Dec.{eqb}
 use lib.ListN.{getD}
 use Rattle.algebra.specs.Field.{Ops, Places}
 use Rattle.algebra.specs.Series.{Series, Degree}
 use Rattle.polys.specs.Coefs.{coefs}
 use Rattle.polys.specs.Euclid.{Inverse}
 use Rattle.polys.specs.Values.{value}
-use Rattle.bits.specs.Vectors.{Vector}
 use Rattle.goppa.specs.Zeros.{linear, AllPlaces}
 
 abbrev pub power : {A : Type 0} → Ops A → A → ℕ → A
@@ -33,11 +30,3 @@ pub record Column {A : Type 0} {m : ℕ} (f : Ops A) (pl : Places A m) (t : ℕ)
   pub unique : Degree f t (coefs pl g) → (p : Series A) → Inverse f t (coefs pl g) (linear f a) p → p ≡ coefs pl q
   pub product : (r : ℕ) → r < t → coefs pl q r ≡ f .mul (overCoefficient f t (coefs pl g) a r) (f .inv (value f pl g a))
   pub written : AllPlaces m q
-
--- bit i of a place has the weight 2^i
-abbrev pub placeBit : ℕ → ℕ → Bool
-placeBit place i = eqb (place / 2 ^ i % 2) 1
-
--- a column as bits: each place fills m of them
-abbrev pub columnBits : ℕ → List ℕ → Vector
-columnBits m places j = placeBit (getD places (j / m) 0) (j % m)

@@ -1,3 +1,4 @@
 pub mod Zeros
 pub mod Columns
 pub mod Codes
+pub mod Matrix

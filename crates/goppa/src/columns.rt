@@ -4,7 +4,7 @@ ghost use mathlib.Core.Bool.{true, false};
 ghost use Prim.Native.Nat.{ℕ, _+_, _-_, _<_, _≤_};
 ghost use lib.ListN.{length, getD, drop};
 ghost use Rattle.polys.specs.Values.{value};
-ghost use Rattle.goppa.specs.Columns.{Column, placeBit};
+ghost use Rattle.goppa.specs.Columns.{Column};
 use fields::field::BinaryField;
 use fields::field::Field;
 use fields::read;
@@ -32,12 +32,4 @@ pub fn column<F: BinaryField>(g: &[u16], a: F, out: &mut [u16]) -> bool
     };
     scaled_quotient(g, a, e, out);
     true
-}
-
-// Bit i of a place, of weight 2^i.
-pub fn place_bit(place: u16, i: u32) -> bool
-    requires { ⌜ i < 16 ⌝ }
-    ensures { λ r. ⌜ r ≡ placeBit place i ⌝ }
-{
-    (place >> i) & 1 == 1
 }

@@ -2,4 +2,5 @@
 // of the check matrix.
 pub mod code;
 pub mod columns;
+pub mod mixed;
 pub mod zeros;

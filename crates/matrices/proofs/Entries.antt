@@ -110,3 +110,15 @@ column-join f s e n col v u B C D lf le same p q i j l =
           ]
         ]
       ]
+
+-- only the bits of the stretch count
+pub column-same :
+    (f e n col : ℕ) (v u : Vector) (B C : Matrix) → ((i : ℕ) → f ≤ i → i < e → v (i - f) ≡ u (i - f))
+    → Column-added f e n col v B C → Column-added f e n col u B C
+column-same f e n col v u B C same h i j l = h i j l ∙ ap (λ x. B i j ⊕ x) (elim (cases-lt i f) [
+  | inl a ↦ rw (in-before f e i a)
+  | inr a ↦ elim (cases-lt i e) [
+    | inl b ↦ ap (λ x. (leb f i && ltb i e) && (eqb j col && x)) (same i a b)
+    | inr b ↦ rw (in-after f e i b)
+  ]
+])
