@@ -5,6 +5,7 @@ ghost use Prim.Native.Nat.{ℕ, _+_, _-_, _<_, _≤_};
 ghost use lib.ListN.{length, getD, drop};
 ghost use Rattle.polys.specs.Values.{value};
 ghost use Rattle.goppa.specs.Columns.{Column};
+use crate::add_product;
 use fields::field::BinaryField;
 use fields::field::Field;
 use fields::read;
@@ -17,7 +18,7 @@ fn scaled_quotient<F: BinaryField>(g: &[u16], a: F, e: F, out: &mut [u16])
 {
     let mut q = F::zero();
     for r in (0..out.len()).rev() {
-        q = read::<F>(g[r + 1]).sum(a.product(q));
+        q = add_product(read::<F>(g[r + 1]), a, q);
         out[r] = e.product(q).place();
     }
 }

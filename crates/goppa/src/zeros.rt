@@ -7,6 +7,7 @@ ghost use Rattle.algebra.specs.Series.{Below};
 ghost use Rattle.polys.specs.Coefs.{poly, coefs};
 ghost use Rattle.polys.specs.Values.{value};
 ghost use Rattle.goppa.specs.Zeros.{linear, fromZeros, differences, Monic, Zeros, AllPlaces};
+use crate::add_product;
 use fields::field::BinaryField;
 use fields::field::Field;
 use fields::read;
@@ -21,7 +22,7 @@ pub fn times_linear<F: BinaryField>(p: &mut [u16], a: F)
     let mut before = F::zero();
     for i in 0..p.len() {
         let c = read::<F>(p[i]);
-        p[i] = before.sum(a.product(c)).place();
+        p[i] = add_product(before, a, c).place();
         before = c;
     }
 }

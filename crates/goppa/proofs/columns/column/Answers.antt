@@ -5,9 +5,6 @@ use Rattle.polys.specs.Values.{value}
 use Rattle.goppa.proofs.Quotients.{column-is}
 use Rattle.goppa.proofs.columns.column.Needs as need
 
-pub returns-in-rest : need.returns-in-rest
-returns-in-rest g c = (sym (c .value-at .ensures) ∙ c .in-rest .ensures tt, refl)
-
 pub returns : need.returns
 returns g c =
     let f = g .F·Field .ops in

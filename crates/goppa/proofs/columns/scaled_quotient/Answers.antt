@@ -30,7 +30,7 @@ loop-r-again g c =
     let step = value-step k pl (g .F·Field·met .origin) G a (r + 1) ∙ ap (λ n. f .add (coefs pl G (r + 1)) (f .mul a (value f pl (drop n G) a))) up in
     let is = coefs-at k pl G (r + 1) in
     let before = inv .0 in
-    let new : c .sum-q .result ≡ value f pl (drop (r + 1) G) a = cc in
+    let new : c .add-product-q .result ≡ value f pl (drop (r + 1) G) a = cc in
     let wrote : c .place .result ≡ pl .num (f .mul (c .args .e) (value f pl (drop (r + 1) G) a)) = cc in
     let within : r < length (c .loop-r .out) = omega arith in (
       new,
