@@ -1,6 +1,16 @@
 // The C interface: numbers as themselves, and a slice as a pointer and a length. A kind of hash is
 // 0 for SHA3-512 and any other number for SHA-512. Each function gives a refusal's number, or 0.
+ghost use mathlib.Core.Path.{_≡_};
+ghost use mathlib.Core.Bool.{cond};
+ghost use Prim.Native.Nat.{min};
+ghost use lib.Dec.{eqb};
+ghost use lib.ListN.{length};
+ghost use Rattle.std.specs.declared.result.Result.the-variants.{Ok, Err};
+ghost use Rattle.levels.specs.Names.{levelOf};
 ghost use Rattle.levels.specs.Work.{Cleared};
+ghost use Rattle.shuffles.specs.Shuffle.{shuffled};
+ghost use Rattle.sealing.specs.Calls.{checkedAt, accepted, SealedAt, lengthsOf, workOf};
+ghost use Rattle.capi.specs.Codes.{layerCode, partCode, told, numberOf, reportAfter, ruleOf, GivenBy};
 
 pub mod narrow;
 
@@ -20,7 +30,9 @@ use sha3::Sha3;
 use sha3::Sha3Hash;
 use shuffles::PositionNumbered;
 
-fn layer_code(layer: Layer) -> u64 {
+fn layer_code(layer: Layer) -> u64
+    ensures { λ r. ⌜ r ≡ layerCode layer ⌝ }
+{
     match layer {
         Layer::Call => 1,
         Layer::Hatch => 2,
@@ -30,7 +42,9 @@ fn layer_code(layer: Layer) -> u64 {
     }
 }
 
-fn part_code(part: Part) -> u64 {
+fn part_code(part: Part) -> u64
+    ensures { λ r. ⌜ r ≡ partCode part ⌝ }
+{
     match part {
         Part::None => 0,
         Part::Support => 1,
@@ -42,9 +56,11 @@ fn part_code(part: Part) -> u64 {
     }
 }
 
-// Writes a fault as number, layer, part and place, or zeros, where there are four entries.
-fn tell(answer: Result<(), Fault>, report: &mut [u64]) -> u64 {
-    let told = match answer {
+// An answer as number, layer, part and place.
+fn told_of(answer: Result<(), Fault>) -> [u64; 4]
+    ensures { λ r. ⌜ r ≡ told answer ⌝ }
+{
+    match answer {
         Ok(()) => [0, 0, 0, 0],
         Err(fault) => {
             let r = fault.report();
@@ -55,11 +71,22 @@ fn tell(answer: Result<(), Fault>, report: &mut [u64]) -> u64 {
                 r.place as u64,
             ]
         }
-    };
+    }
+}
+
+// Writes an answer as number, layer, part and place, or zeros, where there are four entries.
+fn tell(answer: Result<(), Fault>, report: &mut [u64]) -> u64
+    ensures number { λ r. ⌜ r ≡ numberOf answer ⌝ }
+    ensures report { λ _. ⌜ now (report .exit) ≡ reportAfter (now (report .entry)) answer ⌝ }
+{
+    let told = told_of(answer);
     if report.len() == 4 {
         report.copy_from_slice(&told);
     }
-    told[0]
+    match answer {
+        Ok(()) => 0,
+        Err(fault) => u64::from(fault.report().number),
+    }
 }
 
 // Starts the hash, takes two lists of bytes, and writes what comes.
@@ -114,7 +141,10 @@ pub extern "C" fn zq_hash_in_two(kind: u8, first: &[u8], second: &[u8], out: &mu
 }
 
 #[unsafe(no_mangle)]
-pub extern "C" fn zq_shuffle(seed: &[u8], items: &mut [Position]) -> u64 {
+pub extern "C" fn zq_shuffle(seed: &[u8], items: &mut [Position]) -> u64
+    ensures answer { λ r. ⌜ r ≡ cond (eqb (length (now (seed .entry))) 32) 0 3 ⌝ }
+    ensures gives { λ _. ⌜ now (items .exit) ≡ cond (eqb (length (now (seed .entry))) 32) (shuffled (now (seed .entry)) (now (items .entry))) (now (items .entry)) ⌝ }
+{
     if seed.len() != 32 {
         return 3;
     }
@@ -175,8 +205,11 @@ fn error_vector_at(level: &str, seed: &[u8], out: &mut [u8], positions: &mut [Po
     0
 }
 
-// A text that is not UTF-8 names no level, as the empty one does not.
-fn text(bytes: &[u8]) -> &str {
+// The bytes as a text that names the same level. Bytes that are no level's name, UTF-8 or not, are as
+// the empty text.
+fn text(bytes: &[u8]) -> &str
+    ensures { λ r. ⌜ levelOf (now r) ≡ levelOf (now (bytes .entry)) ⌝ }
+{
     match std::str::from_utf8(bytes) {
         Ok(name) => name,
         Err(_) => "",
@@ -196,6 +229,41 @@ pub extern "C" fn zq_error_vector(
     error_vector_at(text(level), seed, out, &mut p.positions[..])
 }
 
+// Seals with a hash, and reports.
+fn seal_with<H: Hash>(
+    level: &[u8],
+    public_key: &[u8],
+    ticket_seed: &[u8],
+    ticket: &mut [u8],
+    key: &mut [u8],
+    hash: &mut H,
+    bytes: &mut [u8],
+    places: &mut [Place],
+    positions: &mut [Position],
+    report: &mut [u64],
+) -> u64
+    ensures answer { λ r. ⌜ r ≡ numberOf (accepted (checkedAt (levelOf (now (level .entry))) (lengthsOf (now («public_key» .entry)) (now («ticket_seed» .entry)) (now (ticket .entry)) (now (key .entry))) (workOf (now (bytes .entry)) (now (places .entry)) (now (positions .entry))) (H·Hash .capacity (now (hash .entry))))) ⌝ }
+    ensures report { λ _. ⌜ now (report .exit) ≡ reportAfter (now (report .entry)) (accepted (checkedAt (levelOf (now (level .entry))) (lengthsOf (now («public_key» .entry)) (now («ticket_seed» .entry)) (now (ticket .entry)) (now (key .entry))) (workOf (now (bytes .entry)) (now (places .entry)) (now (positions .entry))) (H·Hash .capacity (now (hash .entry))))) ⌝ }
+    ensures gives { λ _. ⌜ GivenBy (accepted (checkedAt (levelOf (now (level .entry))) (lengthsOf (now («public_key» .entry)) (now («ticket_seed» .entry)) (now (ticket .entry)) (now (key .entry))) (workOf (now (bytes .entry)) (now (places .entry)) (now (positions .entry))) (H·Hash .capacity (now (hash .entry))))) (levelOf (now (level .entry))) (H·Hash .rule (now (hash .entry))) (now («public_key» .entry)) (now («ticket_seed» .entry)) (now (ticket .entry)) (now (ticket .exit)) (now (key .entry)) (now (key .exit)) ⌝ }
+    ensures bytes { λ _. ⌜ Cleared (now (bytes .entry)) (now (bytes .exit)) ⌝ }
+    ensures places { λ _. ⌜ Cleared (now (places .entry)) (now (places .exit)) ⌝ }
+    ensures positions { λ _. ⌜ Cleared (now (positions .entry)) (now (positions .exit)) ⌝ }
+{
+    let name = text(level);
+    let answer = sealing::seal(
+        name,
+        public_key,
+        ticket_seed,
+        ticket,
+        key,
+        hash,
+        bytes,
+        places,
+        positions,
+    );
+    tell(answer, report)
+}
+
 #[unsafe(no_mangle)]
 pub extern "C" fn zq_seal(
     level: &[u8],
@@ -210,45 +278,46 @@ pub extern "C" fn zq_seal(
     positions: &mut [Position],
     report: &mut [u64],
 ) -> u64
+    ensures answer { λ r. ⌜ r ≡ numberOf (accepted (checkedAt (levelOf (now (level .entry))) (lengthsOf (now («public_key» .entry)) (now («ticket_seed» .entry)) (now (ticket .entry)) (now (key .entry))) (workOf (now (bytes .entry)) (now (places .entry)) (now (positions .entry))) (min capacity 65536))) ⌝ }
+    ensures report { λ _. ⌜ now (report .exit) ≡ reportAfter (now (report .entry)) (accepted (checkedAt (levelOf (now (level .entry))) (lengthsOf (now («public_key» .entry)) (now («ticket_seed» .entry)) (now (ticket .entry)) (now (key .entry))) (workOf (now (bytes .entry)) (now (places .entry)) (now (positions .entry))) (min capacity 65536))) ⌝ }
+    ensures gives { λ _. ⌜ GivenBy (accepted (checkedAt (levelOf (now (level .entry))) (lengthsOf (now («public_key» .entry)) (now («ticket_seed» .entry)) (now (ticket .entry)) (now (key .entry))) (workOf (now (bytes .entry)) (now (places .entry)) (now (positions .entry))) (min capacity 65536))) (levelOf (now (level .entry))) (ruleOf kind) (now («public_key» .entry)) (now («ticket_seed» .entry)) (now (ticket .entry)) (now (ticket .exit)) (now (key .entry)) (now (key .exit)) ⌝ }
     ensures bytes { λ _. ⌜ Cleared (now (bytes .entry)) (now (bytes .exit)) ⌝ }
     ensures places { λ _. ⌜ Cleared (now (places .entry)) (now (places .exit)) ⌝ }
     ensures positions { λ _. ⌜ Cleared (now (positions .entry)) (now (positions .exit)) ⌝ }
 {
-    let name = text(level);
-    let answer = if kind == 0 {
-        let mut hash = Narrow {
-            below: Sha3::new(),
-            most: capacity,
-            left: capacity,
-        };
-        sealing::seal(
-            name,
+    if kind == 0 {
+        seal_with(
+            level,
             public_key,
             ticket_seed,
             ticket,
             key,
-            &mut hash,
+            &mut Narrow {
+                below: Sha3::new(),
+                most: capacity,
+                left: capacity,
+            },
             bytes,
             places,
             positions,
+            report,
         )
     } else {
-        let mut hash = Narrow {
-            below: Sha2::new(),
-            most: capacity,
-            left: capacity,
-        };
-        sealing::seal(
-            name,
+        seal_with(
+            level,
             public_key,
             ticket_seed,
             ticket,
             key,
-            &mut hash,
+            &mut Narrow {
+                below: Sha2::new(),
+                most: capacity,
+                left: capacity,
+            },
             bytes,
             places,
             positions,
+            report,
         )
-    };
-    tell(answer, report)
+    }
 }
