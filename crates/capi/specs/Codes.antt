@@ -2,11 +2,12 @@
 use mathlib.Core.Path.{_≡_}
 use mathlib.Core.Bool.{cond}
 use mathlib.Core.List.{List, [], _∷_}
-use Prim.Native.Nat.{ℕ}
-use lib.Dec.{eqb}
+use Prim.Native.Nat.{ℕ, _-_, _*_}
+use lib.Dec.{eqb, ltb}
 use lib.ListN.{length}
 use Rattle.std.specs.declared.result.Result.{Result}
 use Rattle.std.specs.declared.result.Result.the-variants.{Ok, Err}
+use Rattle.bits.specs.Packed.{vector, packed}
 use Rattle.levels.specs.Faults.{reportOf}
 use Rattle.levels.specs.declared.faults.Fault.{Fault}
 use Rattle.levels.specs.declared.faults.Layer.{Layer}
@@ -14,6 +15,8 @@ use Rattle.levels.specs.declared.faults.Layer.the-variants as layer
 use Rattle.levels.specs.declared.faults.Part.{Part}
 use Rattle.levels.specs.declared.faults.Part.the-variants as part
 use Rattle.levels.specs.declared.Level.{Level}
+use Rattle.levels.specs.Table.{sizesOf}
+use Rattle.shuffles.specs.Orders.{order, perm, permInv, errorVector}
 use Rattle.sealing.specs.Calls.{SealedAt}
 use Rattle.sealing.specs.Tickets.{Rule}
 use Rattle.sha3.specs.Sponge.{sha3Rule}
@@ -57,3 +60,36 @@ ruleOf kind = cond (eqb kind 0) sha3Rule sha2Rule
 abbrev pub GivenBy : Result (Unit {0}) Fault → Result Level Fault → Rule → (public seed ticket ticketAfter key keyAfter : List ℕ) → Type 0
 GivenBy (Ok x) level rule public seed ticket ticketAfter key keyAfter = SealedAt level rule public seed ticketAfter keyAfter
 GivenBy (Err f) level rule public seed ticket ticketAfter key keyAfter = (ticketAfter ≡ ticket) × (keyAfter ≡ key)
+
+-- 1 for no level, 3 for a wrong length of seed or vector, 4 for too few positions
+abbrev pub errorVectorAnswer : Result Level Fault → (seed out : List ℕ) → ℕ → ℕ
+errorVectorAnswer (Err f) seed out positions = 1
+errorVectorAnswer (Ok l) seed out positions =
+    cond (eqb (length seed) 32) (cond (eqb (length out) (sizesOf l .vector)) (cond (ltb positions (sizesOf l .n)) 4 0) 3) 3
+
+-- the seed's error vector, or what was there
+abbrev pub errorVectorAfter : Result Level Fault → (seed out : List ℕ) → ℕ → List ℕ
+errorVectorAfter (Err f) seed out positions = out
+errorVectorAfter (Ok l) seed out positions =
+    cond (eqb (length seed) 32)
+        (cond (eqb (length out) (sizesOf l .vector))
+            (cond (ltb positions (sizesOf l .n)) out (packed (length out) (errorVector (sizesOf l .n) (sizesOf l .t) seed)))
+            out)
+        out
+
+-- 3 for a wrong length, of seed, output, a vector of 2^28 bytes or more, or positions
+abbrev pub permuteAnswer : (seed v out : List ℕ) → ℕ → ℕ
+permuteAnswer seed v out positions =
+    cond (eqb (length seed) 32)
+        (cond (eqb (length out) (length v)) (cond (ltb (length v) 268435456) (cond (ltb positions (8 * length v)) 3 0) 3) 3)
+        3
+
+-- Perm by the seed, or PermInv where the word `inverse` is not 0
+abbrev pub permuted : ℕ → (seed v : List ℕ) → List ℕ
+permuted inverse seed v =
+    packed (length v)
+        (cond (eqb inverse 0) (perm (order (8 * length v) seed) (vector v)) (permInv (order (8 * length v) seed) (vector v)))
+
+-- what the output holds afterwards
+abbrev pub permuteAfter : ℕ → (seed v out : List ℕ) → ℕ → List ℕ
+permuteAfter inverse seed v out positions = cond (eqb (permuteAnswer seed v out positions) 0) (permuted inverse seed v) out

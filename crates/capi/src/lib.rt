@@ -10,7 +10,7 @@ ghost use Rattle.levels.specs.Names.{levelOf};
 ghost use Rattle.levels.specs.Work.{Cleared};
 ghost use Rattle.shuffles.specs.Shuffle.{shuffled};
 ghost use Rattle.sealing.specs.Calls.{checkedAt, accepted, SealedAt, lengthsOf, workOf};
-ghost use Rattle.capi.specs.Codes.{layerCode, partCode, told, numberOf, reportAfter, ruleOf, GivenBy};
+ghost use Rattle.capi.specs.Codes.{layerCode, partCode, told, numberOf, reportAfter, ruleOf, GivenBy, errorVectorAnswer, errorVectorAfter};
 
 pub mod narrow;
 
@@ -189,12 +189,19 @@ pub extern "C" fn zq_permute(
     permute_by(seed, inverse != 0, vector, out, &mut p.positions[..])
 }
 
-fn error_vector_at(level: &str, seed: &[u8], out: &mut [u8], positions: &mut [Position]) -> u64 {
+// Tests, and then writes the error vector.
+fn error_vector_at(level: &str, seed: &[u8], out: &mut [u8], positions: &mut [Position]) -> u64
+    ensures answer { λ r. ⌜ r ≡ errorVectorAnswer (levelOf (now (level .entry))) (now (seed .entry)) (now (out .entry)) (length (now (positions .entry))) ⌝ }
+    ensures gives { λ _. ⌜ now (out .exit) ≡ errorVectorAfter (levelOf (now (level .entry))) (now (seed .entry)) (now (out .entry)) (length (now (positions .entry))) ⌝ }
+{
     let Ok(level) = Level::from_name(level) else {
         return 1;
     };
     let sizes = level.sizes();
-    if seed.len() != 32 || out.len() != sizes.vector {
+    if seed.len() != 32 {
+        return 3;
+    }
+    if out.len() != sizes.vector {
         return 3;
     }
     if positions.len() < sizes.n {
@@ -223,7 +230,9 @@ pub extern "C" fn zq_error_vector(
     out: &mut [u8],
     positions: &mut [Position],
 ) -> u64
-    ensures { λ _. ⌜ Cleared (now (positions .entry)) (now (positions .exit)) ⌝ }
+    ensures answer { λ r. ⌜ r ≡ errorVectorAnswer (levelOf (now (level .entry))) (now (seed .entry)) (now (out .entry)) (length (now (positions .entry))) ⌝ }
+    ensures gives { λ _. ⌜ now (out .exit) ≡ errorVectorAfter (levelOf (now (level .entry))) (now (seed .entry)) (now (out .entry)) (length (now (positions .entry))) ⌝ }
+    ensures positions { λ _. ⌜ Cleared (now (positions .entry)) (now (positions .exit)) ⌝ }
 {
     let p = PositionsGuard { positions };
     error_vector_at(text(level), seed, out, &mut p.positions[..])
