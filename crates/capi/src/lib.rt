@@ -2,7 +2,7 @@
 // 0 for SHA3-512 and any other number for SHA-512. Each function gives a refusal's number, or 0.
 ghost use mathlib.Core.Path.{_≡_};
 ghost use mathlib.Core.Bool.{cond};
-ghost use Prim.Native.Nat.{min};
+ghost use Prim.Native.Nat.{_*_, _^_, _<_, min};
 ghost use lib.Dec.{eqb};
 ghost use lib.ListN.{length};
 ghost use Rattle.std.specs.declared.result.Result.the-variants.{Ok, Err};
@@ -10,7 +10,7 @@ ghost use Rattle.levels.specs.Names.{levelOf};
 ghost use Rattle.levels.specs.Work.{Cleared};
 ghost use Rattle.shuffles.specs.Shuffle.{shuffled};
 ghost use Rattle.sealing.specs.Calls.{checkedAt, accepted, SealedAt, lengthsOf, workOf};
-ghost use Rattle.capi.specs.Codes.{layerCode, partCode, told, numberOf, reportAfter, ruleOf, GivenBy, errorVectorAnswer, errorVectorAfter};
+ghost use Rattle.capi.specs.Codes.{layerCode, partCode, told, numberOf, reportAfter, ruleOf, GivenBy, errorVectorAnswer, errorVectorAfter, permuteAnswer, permuted, permuteAfter};
 
 pub mod narrow;
 
@@ -152,26 +152,48 @@ pub extern "C" fn zq_shuffle(seed: &[u8], items: &mut [Position]) -> u64
     0
 }
 
+// Permutes a vector by a seed.
+fn permute(
+    seed: &[u8],
+    inverse: u8,
+    vector: &[u8],
+    out: &mut [u8],
+    order: &mut [Position],
+)
+    requires { ⌜ length (now seed) ≡ 32 ⌝ ∗ ⌜ length (now out) ≡ length (now vector) ⌝ ∗ ⌜ length (now order) ≡ 8 * length (now vector) ⌝ ∗ ⌜ length (now order) < 2 ^ 32 ⌝ }
+    ensures { λ _. ⌜ now (out .exit) ≡ permuted inverse (now (seed .entry)) (now (vector .entry)) ⌝ }
+{
+    if inverse == 0 {
+        shuffles::perm_by(order, seed, vector, out);
+    } else {
+        shuffles::perm_inv_by(order, seed, vector, out);
+    }
+}
+
+// Tests, and then permutes.
 fn permute_by(
     seed: &[u8],
-    inverse: bool,
+    inverse: u8,
     vector: &[u8],
     out: &mut [u8],
     positions: &mut [Position],
-) -> u64 {
-    if seed.len() != 32
-        || out.len() != vector.len()
-        || vector.len() >= 0x1000_0000
-        || positions.len() < 8 * vector.len()
-    {
+) -> u64
+    ensures answer { λ r. ⌜ r ≡ permuteAnswer (now (seed .entry)) (now (vector .entry)) (now (out .entry)) (length (now (positions .entry))) ⌝ }
+    ensures gives { λ _. ⌜ now (out .exit) ≡ permuteAfter inverse (now (seed .entry)) (now (vector .entry)) (now (out .entry)) (length (now (positions .entry))) ⌝ }
+{
+    if seed.len() != 32 {
         return 3;
     }
-    let order = &mut positions[0..8 * vector.len()];
-    if inverse {
-        shuffles::perm_inv_by(order, seed, vector, out);
-    } else {
-        shuffles::perm_by(order, seed, vector, out);
+    if out.len() != vector.len() {
+        return 3;
     }
+    if vector.len() >= 0x1000_0000 {
+        return 3;
+    }
+    if positions.len() < 8 * vector.len() {
+        return 3;
+    }
+    permute(seed, inverse, vector, out, &mut positions[0..8 * vector.len()]);
     0
 }
 
@@ -183,10 +205,12 @@ pub extern "C" fn zq_permute(
     out: &mut [u8],
     positions: &mut [Position],
 ) -> u64
-    ensures { λ _. ⌜ Cleared (now (positions .entry)) (now (positions .exit)) ⌝ }
+    ensures answer { λ r. ⌜ r ≡ permuteAnswer (now (seed .entry)) (now (vector .entry)) (now (out .entry)) (length (now (positions .entry))) ⌝ }
+    ensures gives { λ _. ⌜ now (out .exit) ≡ permuteAfter inverse (now (seed .entry)) (now (vector .entry)) (now (out .entry)) (length (now (positions .entry))) ⌝ }
+    ensures positions { λ _. ⌜ Cleared (now (positions .entry)) (now (positions .exit)) ⌝ }
 {
     let p = PositionsGuard { positions };
-    permute_by(seed, inverse != 0, vector, out, &mut p.positions[..])
+    permute_by(seed, inverse, vector, out, &mut p.positions[..])
 }
 
 // Tests, and then writes the error vector.
