@@ -1,7 +1,7 @@
 -- What the C interface answers: refusals as numbers, and which hash a kind is.
 use mathlib.Core.Path.{_≡_}
 use mathlib.Core.Bool.{cond}
-use mathlib.Core.List.{List, [], _∷_}
+use mathlib.Core.List.{List, [], _∷_, _++_}
 use Prim.Native.Nat.{ℕ, _-_, _*_}
 use lib.Dec.{eqb, ltb}
 use lib.ListN.{length}
@@ -93,3 +93,15 @@ permuted inverse seed v =
 -- what the output holds afterwards
 abbrev pub permuteAfter : ℕ → (seed v out : List ℕ) → ℕ → List ℕ
 permuteAfter inverse seed v out positions = cond (eqb (permuteAnswer seed v out positions) 0) (permuted inverse seed v) out
+
+-- 3 for an output that has not 32 bytes, 5 for more bytes than the hash takes
+abbrev pub hashAnswer : ℕ → (first second out : List ℕ) → ℕ
+hashAnswer capacity first second out =
+    cond (eqb (length out) 32)
+        (cond (ltb capacity (length first)) 5 (cond (ltb (capacity - length first) (length second)) 5 0))
+        3
+
+-- the rule of the two lists, or what was there
+abbrev pub hashAfter : ℕ → Rule → (first second out : List ℕ) → List ℕ
+hashAfter capacity rule first second out =
+    cond (eqb (hashAnswer capacity first second out) 0) (rule (first ++ second)) out

@@ -2,6 +2,7 @@
 // 0 for SHA3-512 and any other number for SHA-512. Each function gives a refusal's number, or 0.
 ghost use mathlib.Core.Path.{_≡_};
 ghost use mathlib.Core.Bool.{cond};
+ghost use mathlib.Core.List.{[]};
 ghost use Prim.Native.Nat.{_*_, _^_, _<_, min};
 ghost use lib.Dec.{eqb};
 ghost use lib.ListN.{length};
@@ -10,7 +11,7 @@ ghost use Rattle.levels.specs.Names.{levelOf};
 ghost use Rattle.levels.specs.Work.{Cleared};
 ghost use Rattle.shuffles.specs.Shuffle.{shuffled};
 ghost use Rattle.sealing.specs.Calls.{checkedAt, accepted, SealedAt, lengthsOf, workOf};
-ghost use Rattle.capi.specs.Codes.{layerCode, partCode, told, numberOf, reportAfter, ruleOf, GivenBy, errorVectorAnswer, errorVectorAfter, permuteAnswer, permuted, permuteAfter};
+ghost use Rattle.capi.specs.Codes.{layerCode, partCode, told, numberOf, reportAfter, ruleOf, GivenBy, errorVectorAnswer, errorVectorAfter, permuteAnswer, permuted, permuteAfter, hashAnswer, hashAfter};
 
 pub mod narrow;
 
@@ -90,22 +91,31 @@ fn tell(answer: Result<(), Fault>, report: &mut [u64]) -> u64
 }
 
 // Starts the hash, takes two lists of bytes, and writes what comes.
-fn digest<H: Hash>(hash: &mut H, first: &[u8], second: &[u8], out: &mut [u8]) -> u64 {
+fn digest<H: Hash>(hash: &mut H, first: &[u8], second: &[u8], out: &mut [u8]) -> u64
+    ensures answer { λ r. ⌜ r ≡ hashAnswer (H·Hash .capacity (now (hash .entry))) (now (first .entry)) (now (second .entry)) (now (out .entry)) ⌝ }
+    ensures gives { λ _. ⌜ now (out .exit) ≡ hashAfter (H·Hash .capacity (now (hash .entry))) (H·Hash .rule (now (hash .entry))) (now (first .entry)) (now (second .entry)) (now (out .entry)) ⌝ }
+{
     if out.len() != 32 {
         return 3;
     }
     let mut block = [0; 32];
     hash.start();
-    if hash.take(first).is_err() || hash.take(second).is_err() {
+    let Ok(()) = hash.take(first) else {
         return 5;
-    }
+    };
+    let Ok(()) = hash.take(second) else {
+        return 5;
+    };
     hash.finish(&mut block);
     out.copy_from_slice(&block);
     0
 }
 
 #[unsafe(no_mangle)]
-pub extern "C" fn zq_hash(kind: u8, capacity: usize, bytes: &[u8], out: &mut [u8]) -> u64 {
+pub extern "C" fn zq_hash(kind: u8, capacity: usize, bytes: &[u8], out: &mut [u8]) -> u64
+    ensures answer { λ r. ⌜ r ≡ hashAnswer (min capacity 65536) (now (bytes .entry)) [] (now (out .entry)) ⌝ }
+    ensures gives { λ _. ⌜ now (out .exit) ≡ hashAfter (min capacity 65536) (ruleOf kind) (now (bytes .entry)) [] (now (out .entry)) ⌝ }
+{
     if kind == 0 {
         digest(
             &mut Narrow {
@@ -132,7 +142,10 @@ pub extern "C" fn zq_hash(kind: u8, capacity: usize, bytes: &[u8], out: &mut [u8
 }
 
 #[unsafe(no_mangle)]
-pub extern "C" fn zq_hash_in_two(kind: u8, first: &[u8], second: &[u8], out: &mut [u8]) -> u64 {
+pub extern "C" fn zq_hash_in_two(kind: u8, first: &[u8], second: &[u8], out: &mut [u8]) -> u64
+    ensures answer { λ r. ⌜ r ≡ hashAnswer 65536 (now (first .entry)) (now (second .entry)) (now (out .entry)) ⌝ }
+    ensures gives { λ _. ⌜ now (out .exit) ≡ hashAfter 65536 (ruleOf kind) (now (first .entry)) (now (second .entry)) (now (out .entry)) ⌝ }
+{
     if kind == 0 {
         digest(&mut Sha3::new(), first, second, out)
     } else {
