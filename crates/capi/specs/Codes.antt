@@ -72,23 +72,23 @@ abbrev pub errorVectorAfter : Result Level Fault → (seed out : List ℕ) → �
 errorVectorAfter (Err f) seed out positions = out
 errorVectorAfter (Ok l) seed out positions =
     cond (eqb (length seed) 32)
-        (cond (eqb (length out) (sizesOf l .vector))
-            (cond (ltb positions (sizesOf l .n)) out (packed (length out) (errorVector (sizesOf l .n) (sizesOf l .t) seed)))
-            out)
-        out
+    (cond (eqb (length out) (sizesOf l .vector))
+    (cond (ltb positions (sizesOf l .n)) out (packed (length out) (errorVector (sizesOf l .n) (sizesOf l .t) seed)))
+    out)
+    out
 
 -- 3 for a wrong length, of seed, output, a vector of 2^28 bytes or more, or positions
 abbrev pub permuteAnswer : (seed v out : List ℕ) → ℕ → ℕ
 permuteAnswer seed v out positions =
     cond (eqb (length seed) 32)
-        (cond (eqb (length out) (length v)) (cond (ltb (length v) 268435456) (cond (ltb positions (8 * length v)) 3 0) 3) 3)
-        3
+    (cond (eqb (length out) (length v)) (cond (ltb (length v) 268435456) (cond (ltb positions (8 * length v)) 3 0) 3) 3)
+    3
 
 -- Perm by the seed, or PermInv where the word `inverse` is not 0
 abbrev pub permuted : ℕ → (seed v : List ℕ) → List ℕ
 permuted inverse seed v =
     packed (length v)
-        (cond (eqb inverse 0) (perm (order (8 * length v) seed) (vector v)) (permInv (order (8 * length v) seed) (vector v)))
+    (cond (eqb inverse 0) (perm (order (8 * length v) seed) (vector v)) (permInv (order (8 * length v) seed) (vector v)))
 
 -- what the output holds afterwards
 abbrev pub permuteAfter : ℕ → (seed v out : List ℕ) → ℕ → List ℕ
@@ -98,8 +98,8 @@ permuteAfter inverse seed v out positions = cond (eqb (permuteAnswer seed v out 
 abbrev pub hashAnswer : ℕ → (first second out : List ℕ) → ℕ
 hashAnswer capacity first second out =
     cond (eqb (length out) 32)
-        (cond (ltb capacity (length first)) 5 (cond (ltb (capacity - length first) (length second)) 5 0))
-        3
+    (cond (ltb capacity (length first)) 5 (cond (ltb (capacity - length first) (length second)) 5 0))
+    3
 
 -- the rule of the two lists, or what was there
 abbrev pub hashAfter : ℕ → Rule → (first second out : List ℕ) → List ℕ

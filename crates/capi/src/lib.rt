@@ -117,27 +117,9 @@ pub extern "C" fn zq_hash(kind: u8, capacity: usize, bytes: &[u8], out: &mut [u8
     ensures gives { λ _. ⌜ now (out .exit) ≡ hashAfter (min capacity 65536) (ruleOf kind) (now (bytes .entry)) [] (now (out .entry)) ⌝ }
 {
     if kind == 0 {
-        digest(
-            &mut Narrow {
-                below: Sha3::new(),
-                most: capacity,
-                left: capacity,
-            },
-            bytes,
-            &[],
-            out,
-        )
+        digest(&mut Narrow::over(Sha3::new(), capacity), bytes, &[], out)
     } else {
-        digest(
-            &mut Narrow {
-                below: Sha2::new(),
-                most: capacity,
-                left: capacity,
-            },
-            bytes,
-            &[],
-            out,
-        )
+        digest(&mut Narrow::over(Sha2::new(), capacity), bytes, &[], out)
     }
 }
 
@@ -166,13 +148,7 @@ pub extern "C" fn zq_shuffle(seed: &[u8], items: &mut [Position]) -> u64
 }
 
 // Permutes a vector by a seed.
-fn permute(
-    seed: &[u8],
-    inverse: u8,
-    vector: &[u8],
-    out: &mut [u8],
-    order: &mut [Position],
-)
+fn permute(seed: &[u8], inverse: u8, vector: &[u8], out: &mut [u8], order: &mut [Position])
     requires { ⌜ length (now seed) ≡ 32 ⌝ ∗ ⌜ length (now out) ≡ length (now vector) ⌝ ∗ ⌜ length (now order) ≡ 8 * length (now vector) ⌝ ∗ ⌜ length (now order) < 2 ^ 32 ⌝ }
     ensures { λ _. ⌜ now (out .exit) ≡ permuted inverse (now (seed .entry)) (now (vector .entry)) ⌝ }
 {
@@ -206,7 +182,13 @@ fn permute_by(
     if positions.len() < 8 * vector.len() {
         return 3;
     }
-    permute(seed, inverse, vector, out, &mut positions[0..8 * vector.len()]);
+    permute(
+        seed,
+        inverse,
+        vector,
+        out,
+        &mut positions[0..8 * vector.len()],
+    );
     0
 }
 
@@ -332,34 +314,28 @@ pub extern "C" fn zq_seal(
     ensures positions { λ _. ⌜ Cleared (now (positions .entry)) (now (positions .exit)) ⌝ }
 {
     if kind == 0 {
+        let mut sha3 = Narrow::over(Sha3::new(), capacity);
         seal_with(
             level,
             public_key,
             ticket_seed,
             ticket,
             key,
-            &mut Narrow {
-                below: Sha3::new(),
-                most: capacity,
-                left: capacity,
-            },
+            &mut sha3,
             bytes,
             places,
             positions,
             report,
         )
     } else {
+        let mut sha2 = Narrow::over(Sha2::new(), capacity);
         seal_with(
             level,
             public_key,
             ticket_seed,
             ticket,
             key,
-            &mut Narrow {
-                below: Sha2::new(),
-                most: capacity,
-                left: capacity,
-            },
+            &mut sha2,
             bytes,
             places,
             positions,

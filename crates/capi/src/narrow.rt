@@ -1,4 +1,5 @@
 // A hash that takes less than the one below, so that refusals for want of capacity can be met.
+ghost use mathlib.Core.Path.{_≡_};
 ghost use Prim.Native.Nat.{min};
 use hashes::Hash;
 use levels::faults::Fault;
@@ -9,6 +10,20 @@ pub struct Narrow<H: Hash> {
     pub below: H,
     pub most: usize,
     pub left: usize,
+}
+
+impl<H: Hash> Narrow<H> {
+    // The hash below, with a capacity of no more than `most`.
+    pub fn over(below: H, most: usize) -> Self
+        ensures below { λ r. ⌜ r .below ≡ below ⌝ }
+        ensures most { λ r. ⌜ r .most ≡ most ⌝ }
+    {
+        Narrow {
+            below,
+            most,
+            left: most,
+        }
+    }
 }
 
 pub impl<H: Hash> Hash for Narrow<H> as NarrowHash {
