@@ -6,11 +6,10 @@ ghost use mathlib.Core.List.{[]};
 ghost use Prim.Native.Nat.{_*_, _^_, _<_, min};
 ghost use lib.Dec.{eqb};
 ghost use lib.ListN.{length};
-ghost use Rattle.std.specs.declared.result.Result.the-variants.{Ok, Err};
 ghost use Rattle.levels.specs.Names.{levelOf};
 ghost use Rattle.levels.specs.Work.{Cleared};
 ghost use Rattle.shuffles.specs.Shuffle.{shuffled};
-ghost use Rattle.sealing.specs.Calls.{checkedAt, accepted, SealedAt, lengthsOf, workOf};
+ghost use Rattle.sealing.specs.Calls.{checkedAt, accepted, lengthsOf, workOf};
 ghost use Rattle.capi.specs.Codes.{layerCode, partCode, told, numberOf, reportAfter, ruleOf, GivenBy, errorVectorAnswer, errorVectorAfter, permuteAnswer, permuted, permuteAfter, hashAnswer, hashAfter};
 
 pub mod narrow;
@@ -231,8 +230,8 @@ fn error_vector_at(level: &str, seed: &[u8], out: &mut [u8], positions: &mut [Po
     0
 }
 
-// The bytes as a text that names the same level. Bytes that are no level's name, UTF-8 or not, are as
-// the empty text.
+// The bytes as a text that names the same level. Bytes that are not UTF-8 name none, as the empty text
+// does.
 fn text(bytes: &[u8]) -> &str
     ensures { λ r. ⌜ levelOf (now r) ≡ levelOf (now (bytes .entry)) ⌝ }
 {
