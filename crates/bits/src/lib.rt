@@ -1,5 +1,7 @@
 // Bits in packed vectors, and the linear algebra over the field of two elements. The functions `bit`
 // and `add_bit` and what they cite are all that knows where in its byte a bit lies.
+#![tactic(auto)]
+
 ghost use Rattle.std.specs.Prelude.{◌≡◌, ℕ, ◌+◌, ◌*◌, ◌/◌, ◌%◌, ◌<◌, length, slice_index};
 ghost use Rattle.bits.specs.Packed.{power_of, vector, BitAdded};
 ghost use Rattle.bits.specs.Words.{word, word_bytes};

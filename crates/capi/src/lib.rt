@@ -1,5 +1,7 @@
 // The C interface: numbers as themselves, and a slice as a pointer and a length. A kind of hash is
 // 0 for SHA3-512 and any other number for SHA-512. Each function gives a refusal's number, or 0.
+#![tactic(auto)]
+
 ghost use Rattle.std.specs.Prelude.{◌≡◌, ◌*◌, ◌^◌, ◌<◌, min, [], length, if◌then◌else◌, nat_eq};
 ghost use Rattle.levels.specs.Names.{level_of};
 ghost use Rattle.levels.specs.Work.{Cleared};

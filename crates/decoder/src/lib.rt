@@ -1,4 +1,6 @@
 // The decoder of Goppa codes: from a syndrome to the one vector of weight t that has it.
+#![tactic(auto)]
+
 ghost use Rattle.std.specs.Prelude.{◌≡◌, ℕ, ◌+◌, ◌*◌, ◌/◌, ◌^◌, ◌<◌, ◌≤◌, true, false, List, length, replicate};
 ghost use Rattle.bits.specs.Packed.{vector};
 ghost use Rattle.matrices.specs.Columns.{bits_of};

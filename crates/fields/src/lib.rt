@@ -1,4 +1,6 @@
 // Fields of 2^m elements, as an interface, and how numbers in lent memory are read as elements.
+#![tactic(auto)]
+
 ghost use Rattle.std.specs.Prelude.{◌≡◌, true, false, ◌≢◌};
 
 pub mod degree;

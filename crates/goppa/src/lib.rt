@@ -1,5 +1,7 @@
 // The Goppa code of a seed: its support and zeros, the polynomial with these zeros, and the columns
 // of the check matrix.
+#![tactic(auto)]
+
 ghost use Rattle.std.specs.Prelude.{◌≡◌};
 
 pub mod code;

@@ -1,4 +1,6 @@
 // What a hash means, and the labelled hash over every hash.
+#![tactic(auto)]
+
 ghost use Rattle.std.specs.Prelude.{◌≡◌, ℕ, ◌-◌, ◌<◌, ◌≤◌, List, [], ◌++◌, length, Ok, Err};
 ghost use Rattle.levels.specs.declared.faults.Fault.TheVariants.{SmallCapacity};
 

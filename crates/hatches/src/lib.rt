@@ -1,4 +1,6 @@
 // Hatches: loading a secret key, opening tickets, wiping; and their lives.
+#![tactic(auto)]
+
 ghost use Rattle.std.specs.Prelude.{◌≡◌, ℕ, ◌≤◌, true, length, replicate, Ok, Err};
 ghost use Rattle.levels.specs.Names.{level_of};
 ghost use Rattle.levels.specs.Table.{sizes_of};

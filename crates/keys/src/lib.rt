@@ -1,5 +1,7 @@
 // Key pairs: making them from seeds. The definitions say what makes a written secret key sound, which
 // public key seals to it, and what it means that a ticket seals a vector to it.
+#![tactic(auto)]
+
 ghost use Rattle.std.specs.Prelude.{◌≡◌, ◌≤◌, length, Ok, Err};
 ghost use Rattle.levels.specs.Names.{level_of};
 ghost use Rattle.levels.specs.Table.{sizes_of};

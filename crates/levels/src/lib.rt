@@ -1,5 +1,7 @@
 // What every layer shares: the levels with their table of sizes, the faults by which a call
 // refuses, and the guards that clear lent work memory.
+#![tactic(auto)]
+
 ghost use Rattle.std.specs.Prelude.{◌≡◌};
 ghost use Rattle.levels.specs.Names.{level_of};
 ghost use Rattle.levels.specs.Table.{sizes_of, Lawful};

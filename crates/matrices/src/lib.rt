@@ -1,4 +1,6 @@
 // Packed matrices in lent memory, row after row: products with packed vectors, and elimination.
+#![tactic(auto)]
+
 ghost use Rattle.std.specs.Prelude.{◌≡◌, ℕ, ◌+◌, ◌-◌, ◌*◌, ◌/◌, ◌^◌, ◌<◌, ◌≤◌, true, false, length, MatchBool, ◌==◌, ◌≢◌, slice_index};
 ghost use Rattle.bits.specs.Vectors.{◌⊕◌, dot, times, systematic};
 ghost use Rattle.bits.specs.Packed.{vector, matrix, packed};

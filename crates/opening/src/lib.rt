@@ -1,5 +1,7 @@
 // Opening: what a ticket opens to under a sound key. The syndrome of its body is decoded, the decoded
 // vector is put back into its order, and the ticket's key is given if the vector's head is the ticket's.
+#![tactic(auto)]
+
 ghost use Rattle.std.specs.Prelude.{◌≡◌, ℕ, ◌+◌, ◌*◌, ◌/◌, ◌^◌, ◌<◌, ◌≤◌, true, false, [], ◌++◌, length, take, codes, Decides};
 ghost use Rattle.levels.specs.Table.{Lawful};
 ghost use Rattle.bits.specs.Vectors.{Vector, dot};

@@ -1,6 +1,7 @@
 // Makes a pair of keys and seals one ticket to it, and says line by line what it read and what it
 // made. Its words are a level's name and the files of a code seed, of mixing seeds one after the
 // other, of a decoy seed and of a ticket seed.
+#![tactic(auto)]
 
 mod hex;
 

@@ -1,6 +1,8 @@
 // Mathematics only: the decoding theorem of Goppa codes. The columns of the check matrix are the inverses of X + α modulo the
 // Goppa polynomial g, for the points α of the support; a vector's syndrome is the sum of the columns at its ones. The theorem
 // says that Patterson's decoder finds the one vector of weight t that has a given syndrome, or that there is none.
+#![tactic(auto)]
+
 ghost use Rattle.patterson.specs.Claims.{Over, ColumnValue, SyndromeValue, SolvesKeyEquation, AnySolution, OneVector, ZeroSyndrome, EuclidStart, EuclidStep, EuclidEnd, EuclidInverse, HasRestZeros, Invertible, SquareRootValue, KeyRoot, Bounds, Complete, Sound, Refuses, ByCoefficients, Decoding, OutOfBounds};
 
 // The parts of the theorem, over every field of characteristic 2 with square roots whose elements are those of F.

@@ -1,5 +1,7 @@
 // What the decoding theorem asks for can be had: a code over the field of four elements, a vector's syndrome, and all that the
 // decoder computes from it; and the theorem gives the vector back.
+#![tactic(auto)]
+
 ghost use Rattle.std.proofs.Math.Option.{some};
 ghost use Rattle.algebra.specs.Poly.{eval};
 ghost use Rattle.patterson.specs.Code.{Perfect, GoppaCode};

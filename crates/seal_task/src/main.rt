@@ -1,5 +1,6 @@
 // Seals one ticket, and says line by line what it read and what it made. Its words are a level's
 // name, the file of a public key and the file of a ticket seed.
+#![tactic(auto)]
 
 mod hex;
 

@@ -1,4 +1,6 @@
 // Sealing: a customer seals a key in a ticket to a public key.
+#![tactic(auto)]
+
 ghost use Rattle.std.specs.Prelude.{◌≡◌, ℕ, ◌+◌, ◌-◌, ◌*◌, ◌^◌, ◌<◌, ◌≤◌, [], ◌++◌, length, Ok, Err, codes};
 ghost use Rattle.levels.specs.Names.{level_of};
 ghost use Rattle.levels.specs.Rows.{answer};

@@ -1,4 +1,6 @@
 // The first 32 bytes of SHA-512 as a hash.
+#![tactic(auto)]
+
 ghost use Rattle.std.specs.Prelude.{◌≤◌};
 
 mod compression;

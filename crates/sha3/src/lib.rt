@@ -1,4 +1,6 @@
 // SHA3-512 of FIPS 202 as a hash: the first 32 of its bytes.
+#![tactic(auto)]
+
 ghost use Rattle.std.specs.Prelude.{◌<◌};
 
 mod hash;

@@ -1,5 +1,7 @@
 // Shuffles by a seed, and what is built of them: the order of the positions of a vector, Perm and
 // PermInv, and the error vector of a seed.
+#![tactic(auto)]
+
 ghost use Rattle.std.specs.Prelude.{◌≡◌, ℕ, ◌*◌, ◌^◌, ◌<◌, ◌≤◌, Bool, length, take, count_by};
 ghost use Rattle.std.specs.List.{range_with_len};
 ghost use Rattle.bits.specs.Vectors.{weight};

@@ -1,5 +1,7 @@
 // The tests of a written secret key. They answer what the definition of a sound key says: the first
 // test that fails, and its place.
+#![tactic(auto)]
+
 ghost use Rattle.std.specs.Prelude.{◌≡◌, ℕ, ◌+◌, ◌*◌, ◌<◌, ◌≤◌, length, ◌≢◌, slice_index};
 ghost use Rattle.levels.specs.Rows.{answer};
 ghost use Rattle.levels.specs.Table.{Lawful};

@@ -1,4 +1,6 @@
 // The worked examples, as one theorem on one contract.
+#![tactic(auto)]
+
 ghost use Rattle.std.specs.Prelude.{◌≡◌};
 ghost use Rattle.worked.specs.Examples.{Examples};
 ghost use Rattle.worked.specs.Sheet.{FieldExamples};
