@@ -6,8 +6,8 @@ use Rattle.opening.specs.Opened.{opened_key}
 use Rattle.hatches.proofs.Levels.{at_sample, at_large, sound_is}
 use Rattle.hatches.proofs.open_at.Goals as goal
 
-pub open-with-requires : goal.open-with-requires
-open-with-requires g c =
+pub open_with-requires : goal.open_with-requires
+open_with-requires g c =
     let s = c.sizes-sizes.result in
     let e = c.sizes-sizes.ensures.table in
     record {
@@ -17,8 +17,8 @@ open-with-requires g c =
       capacity = search rules;
     }
 
-pub open-with-requires-in-Level128 : goal.open-with-requires-in-Level128
-open-with-requires-in-Level128 g c =
+pub open_with-requires-in-Level128 : goal.open_with-requires-in-Level128
+open_with-requires-in-Level128 g c =
     let s = c.sizes-sizes.result in
     let e = c.sizes-sizes.ensures.table in
     record {
@@ -34,24 +34,24 @@ pub returns-in-Sample : goal.returns-in-Sample
 returns-in-Sample g c =
     record {
       gives =
-          c.open-with.ensures.gives
+          c.open_with.ensures.gives
           ∙ at_sample (λ A m f pl x. opened_key f pl x (g.H.Hash.rule c.args.hash.now) c.args.key.now c.args.ticket.now) c.args.level c.sizes-sizes.result
           c.in-Sample.is c.sizes-sizes.ensures.table;
-      fresh = c.open-with.ensures.fresh;
-      ruled = c.open-with.ensures.ruled;
-      same = c.open-with.ensures.same;
-      kept = c.open-with.ensures.kept;
+      fresh = c.open_with.ensures.fresh;
+      ruled = c.open_with.ensures.ruled;
+      same = c.open_with.ensures.same;
+      kept = c.open_with.ensures.kept;
     }
 
 pub returns-in-Level128 : goal.returns-in-Level128
 returns-in-Level128 g c =
     record {
       gives =
-          c.open-with-in-Level128.ensures.gives
+          c.open_with-in-Level128.ensures.gives
           ∙ at_large (λ A m f pl x. opened_key f pl x (g.H.Hash.rule c.args.hash.now) c.args.key.now c.args.ticket.now) c.args.level c.sizes-sizes.result
           (no_sample c.args.level c.in-Level128.is) c.sizes-sizes.ensures.table;
-      fresh = c.open-with-in-Level128.ensures.fresh;
-      ruled = c.open-with-in-Level128.ensures.ruled;
-      same = c.open-with-in-Level128.ensures.same;
-      kept = c.open-with-in-Level128.ensures.kept;
+      fresh = c.open_with-in-Level128.ensures.fresh;
+      ruled = c.open_with-in-Level128.ensures.ruled;
+      same = c.open_with-in-Level128.ensures.same;
+      kept = c.open_with-in-Level128.ensures.kept;
     }

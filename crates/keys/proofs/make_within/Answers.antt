@@ -10,24 +10,24 @@ use Rattle.keys.proofs.AtLevels.{Given}
 use Rattle.keys.proofs.Passing.{named, fits}
 use Rattle.keys.proofs.make_within.Goals as goal
 
-pub make-at-requires : goal.make-at-requires
-make-at-requires c =
-    let b : Lengths = lengths_of c.args.code-seed.now c.args.mixing-seeds.now c.args.decoy-seed.now c.args.public-key.now c.args.secret-key.now in
+pub make_at-requires : goal.make_at-requires
+make_at-requires c =
+    let b : Lengths = lengths_of c.args.code_seed.now c.args.mixing_seeds.now c.args.decoy_seed.now c.args.public_key.now c.args.secret_key.now in
     let w : WorkLengths = work_of c.args.bytes.now c.args.places.now c.args.positions.now in
-    let e : checked_at (level_of c.args.level.now) b w ≡ Ok c.in-ok-level.level = sym c.check.ensures ∙ c.in-ok-level.was in
-    let f = fits (level_of c.args.level.now) c.in-ok-level.level b w e in
+    let e : checked_at (level_of c.args.level.now) b w ≡ Ok c.in_ok-level.level = sym c.check.ensures ∙ c.in_ok-level.was in
+    let f = fits (level_of c.args.level.now) c.in_ok-level.level b w e in
     record { seeds = (f.code, f.decoy); work = (f.bytes, (f.places, f.positions)); keys = (f.public, f.secret) }
 
 pub returns : goal.returns
 returns c =
-    let b : Lengths = lengths_of c.args.code-seed.now c.args.mixing-seeds.now c.args.decoy-seed.now c.args.public-key.now c.args.secret-key.now in
+    let b : Lengths = lengths_of c.args.code_seed.now c.args.mixing_seeds.now c.args.decoy_seed.now c.args.public_key.now c.args.secret_key.now in
     let w : WorkLengths = work_of c.args.bytes.now c.args.places.now c.args.positions.now in
-    let e : checked_at (level_of c.args.level.now) b w ≡ Ok c.in-ok-level.level = sym c.check.ensures ∙ c.in-ok-level.was in
+    let e : checked_at (level_of c.args.level.now) b w ≡ Ok c.in_ok-level.level = sym c.check.ensures ∙ c.in_ok-level.was in
     let P : Result Level Fault → Type 0 =
-    λ lv. Given c.make-at.result
-    (MadeAt lv c.args.code-seed.now c.args.mixing-seeds.now c.args.decoy-seed.now c.make-at.new.public-key c.make-at.new.secret-key)
-    ((c.make-at.new.public-key ≡ c.args.public-key.now) × (c.make-at.new.secret-key ≡ c.args.secret-key.now)) in
+    λ lv. Given c.make_at.result
+    (MadeAt lv c.args.code_seed.now c.args.mixing_seeds.now c.args.decoy_seed.now c.make_at.new.public_key c.make_at.new.secret_key)
+    ((c.make_at.new.public_key ≡ c.args.public_key.now) × (c.make_at.new.secret_key ≡ c.args.secret_key.now)) in
     record {
-      answer = c.make-at.ensures.answer ∙ ap (λ x. tried_at x c.args.code-seed.now c.args.mixing-seeds.now) (sym e);
-      gives = subst P (sym (named (level_of c.args.level.now) c.in-ok-level.level b w e)) c.make-at.ensures.gives;
+      answer = c.make_at.ensures.answer ∙ ap (λ x. tried_at x c.args.code_seed.now c.args.mixing_seeds.now) (sym e);
+      gives = subst P (sym (named (level_of c.args.level.now) c.in_ok-level.level b w e)) c.make_at.ensures.gives;
     }

@@ -17,7 +17,7 @@ pub loop-i-preserved : goal.loop-i-preserved
 loop-i-preserved c =
     let w = length c.args.v.now in
     let f : Vector = λ i. dot (8 * w) (matrix w c.args.m.now i) (vector c.args.v.now) in
-    added_more c.loop-i.i f c.parity.result c.args.out.now c.loop-i.out c.add-bit.new.v c.loop-i.invariant c.add-bit.ensures
+    added_more c.loop-i.i f c.parity.result c.args.out.now c.loop-i.out c.add_bit.new.v c.loop-i.invariant c.add_bit.ensures
     (c.parity.ensures ∙ row_part w c.loop-i.i _ c.args.m.now (vector c.args.v.now) (omega arith))
 
 pub returns : goal.returns

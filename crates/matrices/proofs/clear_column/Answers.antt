@@ -9,8 +9,8 @@ pub entry-requires : goal.entry-requires
 entry-requires c =
     entry_within c.args.width c.args.rows c.loop-i.i c.args.c c.loop-i.m (omega arith) (omega arith) (omega arith)
 
-pub add-row-requires : goal.add-row-requires
-add-row-requires c =
+pub add_row-requires : goal.add_row-requires
+add_row-requires c =
     record {
       within = (
         row_within c.args.width c.args.rows c.args.k c.loop-i.m (omega arith) (omega arith),
@@ -25,8 +25,8 @@ loop-i-preserved c =
       | then-i-k+then-entry w ↦
           simp w.m-is
           (cleared_added c.args.rows (8 * c.args.width) c.args.k c.args.c c.loop-i.i (matrix c.args.width c.args.m.now)
-          (matrix c.args.width c.loop-i.m) (matrix c.args.width w.add-row.new.m) (omega arith) (omega arith) (omega arith) w.if-i-k.true
-          c.requires.low c.loop-i.invariant (sym w.if-entry.ensures) w.add-row.ensures)
+          (matrix c.args.width c.loop-i.m) (matrix c.args.width w.add_row.new.m) (omega arith) (omega arith) (omega arith) w.if-i-k.true
+          c.requires.low c.loop-i.invariant (sym w.if-entry.ensures) w.add_row.ensures)
       | else-i-k w ↦
           let skip =
           cleared_skip c.args.rows (8 * c.args.width) c.args.k c.args.c c.loop-i.i

@@ -21,10 +21,10 @@ returns c =
     let A = matrix (c.args.front + c.args.back) c.args.hp.now in
     let h =
     echelon_is (8 * c.args.front) (8 * c.args.back) A (matrix (c.args.front + c.args.back) c.reduce.new.m)
-    (matrix c.args.back c.copy-columns.new.out) (rw e at c.if-not-reduce.ensures) c.copy-columns.ensures.columns in
+    (matrix c.args.back c.copy_columns.new.out) (rw e at c.if-not-reduce.ensures) c.copy_columns.ensures.columns in
     record {
       form = h;
-      reduced = reduced_is (8 * c.args.front) (8 * c.args.back) A (matrix c.args.back c.copy-columns.new.out) h;
-      rest = c.copy-columns.ensures.rest;
+      reduced = reduced_is (8 * c.args.front) (8 * c.args.back) A (matrix c.args.back c.copy_columns.new.out) h;
+      rest = c.copy_columns.ensures.rest;
       decided = sym (independent_found (8 * c.args.front) A h.injective);
     }

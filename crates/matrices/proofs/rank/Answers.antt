@@ -8,8 +8,8 @@ use Rattle.matrices.proofs.rank.Goals as goal
 pub returns : goal.returns
 returns c =
     let A = matrix c.args.width c.args.m.now in
-    let k = c.count-pivots.result in
-    let h : Ranked c.args.rows A (8 * c.args.width) k = c.count-pivots.ensures in
+    let k = c.count_pivots.result in
+    let h : Ranked c.args.rows A (8 * c.args.width) k = c.count_pivots.ensures in
     record {
       value = h;
       number = ranked_is c.args.rows (8 * c.args.width) k A h;

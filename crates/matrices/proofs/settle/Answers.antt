@@ -8,5 +8,5 @@ returns c =
     let l : c.pivot-p.result < c.args.rows = omega arith in (
       (c.pivot-p.result, (omega arith, l, c.pivot-p.ensures.found l)),
       settled_after c.args.rows (8 * c.args.width) c.args.k c.args.c (matrix c.args.width c.args.m.now)
-          (matrix c.args.width c.set-pivot.new.m) (matrix c.args.width c.clear-column.new.m) c.set-pivot.ensures.kept c.clear-column.ensures,
+          (matrix c.args.width c.set_pivot.new.m) (matrix c.args.width c.clear_column.new.m) c.set_pivot.ensures.kept c.clear_column.ensures,
     )

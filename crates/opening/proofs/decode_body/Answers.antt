@@ -45,6 +45,6 @@ returns g c =
     let q = perfect g in
     let pl = g.F.Field.places in
     let z = g.met.F.Field.origin in
-    decoded q pl z s h key c.requires.sound g.met.F.Field.sums c.requires.sizes.1.0 ticket (vector c.write-product.new.out)
-    (λ i l. c.write-product.ensures i (omega (arith, h.body)) ∙ product_is q pl z s h key c.requires.sound ticket c.requires.sizes.1.1.1 i l)
+    decoded q pl z s h key c.requires.sound g.met.F.Field.sums c.requires.sizes.1.0 ticket (vector c.write_product.new.out)
+    (λ i l. c.write_product.ensures i (omega (arith, h.body)) ∙ product_is q pl z s h key c.requires.sound ticket c.requires.sizes.1.1.1 i l)
     c.args.g.now c.args.support.now c.requires.code.0 c.requires.code.1 c.decode.result (vector c.decode.new.out) _ c.decode.ensures

@@ -11,10 +11,10 @@ returns g c =
     let kept : g.H.Hash.capacity c.recover.new.hash ≡ g.H.Hash.capacity c.args.hash.now = c.recover.ensures.kept in
     record {
       gives =
-          c.give-key.ensures.gives
+          c.give_key.ensures.gives
           ∙ (ap (λ (r : Rule). key_of s r (vector c.recover.new.d) c.args.ticket.now) same ∙ c.recover.ensures.gives);
-      fresh = c.give-key.ensures.fresh ∙ kept;
-      ruled = c.give-key.ensures.ruled ∙ same;
-      same = c.give-key.ensures.same ∙ same;
-      kept = c.give-key.ensures.kept ∙ kept;
+      fresh = c.give_key.ensures.fresh ∙ kept;
+      ruled = c.give_key.ensures.ruled ∙ same;
+      same = c.give_key.ensures.same ∙ same;
+      kept = c.give_key.ensures.kept ∙ kept;
     }

@@ -13,13 +13,13 @@ returns-then-not-sealed g c =
     record {
       gives =
           decoy_chosen (perfect g) g.F.Field.places g.met.F.Field.origin c.args.sizes.now c.requires.sizes.0 c.args.key.now c.requires.sound g.met.F.Field.sums
-          c.requires.sizes.1.0 (g.H.Hash.rule c.args.hash.now) c.args.ticket.now c.requires.sizes.1.1.1 c.decode-body-found.result c.has-head-same.result
-          (vector c.decode-body-found.new.d) c.unpermute.new.d c.take-decoy.new.d c.decode-body-found.ensures c.unpermute.ensures c.has-head-same.ensures.which
-          c.if-not-sealed.true c.take-decoy.ensures;
-      fresh = c.has-head-same.ensures.fresh;
-      ruled = c.has-head-same.ensures.ruled;
-      same = c.has-head-same.ensures.same;
-      kept = c.has-head-same.ensures.kept;
+          c.requires.sizes.1.0 (g.H.Hash.rule c.args.hash.now) c.args.ticket.now c.requires.sizes.1.1.1 c.decode_body-found.result c.has_head-same.result
+          (vector c.decode_body-found.new.d) c.unpermute.new.d c.take_decoy.new.d c.decode_body-found.ensures c.unpermute.ensures c.has_head-same.ensures.which
+          c.if-not-sealed.true c.take_decoy.ensures;
+      fresh = c.has_head-same.ensures.fresh;
+      ruled = c.has_head-same.ensures.ruled;
+      same = c.has_head-same.ensures.same;
+      kept = c.has_head-same.ensures.kept;
     }
 
 pub returns-else-not-sealed : goal.returns-else-not-sealed
@@ -27,11 +27,11 @@ returns-else-not-sealed g c =
     record {
       gives =
           sealed_chosen (perfect g) g.F.Field.places g.met.F.Field.origin c.args.sizes.now c.requires.sizes.0 c.args.key.now c.requires.sound g.met.F.Field.sums
-          c.requires.sizes.1.0 (g.H.Hash.rule c.args.hash.now) c.args.ticket.now c.requires.sizes.1.1.1 c.decode-body-found.result c.has-head-same.result
-          (vector c.decode-body-found.new.d) c.unpermute.new.d c.decode-body-found.ensures c.unpermute.ensures c.has-head-same.ensures.which
+          c.requires.sizes.1.0 (g.H.Hash.rule c.args.hash.now) c.args.ticket.now c.requires.sizes.1.1.1 c.decode_body-found.result c.has_head-same.result
+          (vector c.decode_body-found.new.d) c.unpermute.new.d c.decode_body-found.ensures c.unpermute.ensures c.has_head-same.ensures.which
           c.if-not-sealed.false (λ k. (c.type-inv.ticket k).fits);
-      fresh = c.has-head-same.ensures.fresh;
-      ruled = c.has-head-same.ensures.ruled;
-      same = c.has-head-same.ensures.same;
-      kept = c.has-head-same.ensures.kept;
+      fresh = c.has_head-same.ensures.fresh;
+      ruled = c.has_head-same.ensures.ruled;
+      same = c.has_head-same.ensures.same;
+      kept = c.has_head-same.ensures.kept;
     }

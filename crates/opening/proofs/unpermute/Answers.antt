@@ -8,6 +8,6 @@ returns c =
     let h = c.requires.sizes.0 in
     let ticket = c.args.ticket.now in
     let e32 : ◌≡◌ {A = ℕ} (32 - 0) 32 = omega arith in
-    unpermuted s h c.args.key.now ticket c.args.d.now c.perm-inv-by.new.out c.perm-inv-by-2.new.out (length c.args.positions.now) (length c.perm-inv-by.new.positions)
+    unpermuted s h c.args.key.now ticket c.args.d.now c.perm_inv_by.new.out c.perm_inv_by-2.new.out (length c.args.positions.now) (length c.perm_inv_by.new.positions)
     (length c.args.e.now) (length c.args.d.now) _ _ (omega arith) (omega arith) (omega arith) (omega arith)
-    (ap (λ k. take k ticket) e32) (mixing_part s c.args.key.now) c.perm-inv-by.ensures.after c.perm-inv-by-2.ensures.after
+    (ap (λ k. take k ticket) e32) (mixing_part s c.args.key.now) c.perm_inv_by.ensures.after c.perm_inv_by-2.ensures.after

@@ -10,5 +10,5 @@ returns c =
     let v = c.args.v.now in
     let e : c.fill.new.self ≡ replicate n 0 = search rules in
     λ i l.
-    c.add-product.ensures i (omega arith)
+    c.add_product.ensures i (omega arith)
     ∙ ap (λ b. b ⊕ dot (8 * length v) (matrix (length v) c.args.m.now i) (vector v)) (ap (λ (xs : List ℕ). vector xs i) e ∙ zeros_vector n i)

@@ -6,14 +6,14 @@ use Rattle.sealing.specs.Calls.{checked_at, accepted, lengths_of}
 use Rattle.sealing.proofs.Checks.{fits, sealed_at}
 use Rattle.sealing.proofs.seal_within.Goals as goal
 
-pub seal-checked-requires : goal.seal-checked-requires
-seal-checked-requires g c =
-    let b : Lengths = lengths_of c.args.public-key.now c.args.ticket-seed.now c.args.ticket.now c.args.key.now in
+pub seal_checked-requires : goal.seal_checked-requires
+seal_checked-requires g c =
+    let b : Lengths = lengths_of c.args.public_key.now c.args.ticket_seed.now c.args.ticket.now c.args.key.now in
     let w : WorkLengths = record { bytes = length c.args.bytes.now; places = c.args.places; positions = length c.args.positions.now } in
     let n = g.H.Hash.capacity c.args.hash.now in
-    let e : checked_at (level_of c.args.level.now) b w n ≡ Ok c.in-ok-sizes.sizes =
-    ap (λ k. checked_at (level_of c.args.level.now) b w k) (sym c.capacity.ensures) ∙ (sym c.check.ensures ∙ c.in-ok-sizes.was) in
-    let f = fits (level_of c.args.level.now) c.in-ok-sizes.sizes b w n e in
+    let e : checked_at (level_of c.args.level.now) b w n ≡ Ok c.in_ok-sizes.sizes =
+    ap (λ k. checked_at (level_of c.args.level.now) b w k) (sym c.capacity.ensures) ∙ (sym c.check.ensures ∙ c.in_ok-sizes.was) in
+    let f = fits (level_of c.args.level.now) c.in_ok-sizes.sizes b w n e in
     record {
       sizes = (f.lawful, (f.public, f.seed));
       outputs = (f.ticket, f.key);
@@ -23,19 +23,19 @@ seal-checked-requires g c =
 
 pub returns : goal.returns
 returns g c =
-    let b : Lengths = lengths_of c.args.public-key.now c.args.ticket-seed.now c.args.ticket.now c.args.key.now in
+    let b : Lengths = lengths_of c.args.public_key.now c.args.ticket_seed.now c.args.ticket.now c.args.key.now in
     let w : WorkLengths = record { bytes = length c.args.bytes.now; places = c.args.places; positions = length c.args.positions.now } in
     let n = g.H.Hash.capacity c.args.hash.now in
-    let e : checked_at (level_of c.args.level.now) b w n ≡ Ok c.in-ok-sizes.sizes =
-    ap (λ k. checked_at (level_of c.args.level.now) b w k) (sym c.capacity.ensures) ∙ (sym c.check.ensures ∙ c.in-ok-sizes.was) in
+    let e : checked_at (level_of c.args.level.now) b w n ≡ Ok c.in_ok-sizes.sizes =
+    ap (λ k. checked_at (level_of c.args.level.now) b w k) (sym c.capacity.ensures) ∙ (sym c.check.ensures ∙ c.in_ok-sizes.was) in
     record {
       answer = sym (ap accepted e);
       gives = (
-        sealed_at (level_of c.args.level.now) c.in-ok-sizes.sizes b w n (g.H.Hash.rule c.args.hash.now) c.args.public-key.now
-            c.args.ticket-seed.now c.seal-checked.new.ticket c.seal-checked.new.key e c.seal-checked.ensures.sealed,
-        c.seal-checked.ensures.fresh,
-        c.seal-checked.ensures.ruled,
+        sealed_at (level_of c.args.level.now) c.in_ok-sizes.sizes b w n (g.H.Hash.rule c.args.hash.now) c.args.public_key.now
+            c.args.ticket_seed.now c.seal_checked.new.ticket c.seal_checked.new.key e c.seal_checked.ensures.sealed,
+        c.seal_checked.ensures.fresh,
+        c.seal_checked.ensures.ruled,
       );
-      same = c.seal-checked.ensures.same;
-      kept = c.seal-checked.ensures.kept;
+      same = c.seal_checked.ensures.same;
+      kept = c.seal_checked.ensures.kept;
     }

@@ -5,12 +5,12 @@ use Rattle.shuffles.specs.Orders.{perm}
 use Rattle.sealing.proofs.Tickets.{body_is}
 use Rattle.sealing.proofs.write_body.Goals as goal
 
-pub systematic-product-requires : goal.systematic-product-requires
-systematic-product-requires c =
+pub systematic_product-requires : goal.systematic_product-requires
+systematic_product-requires c =
     let s = c.args.sizes.now in
     let h = c.requires.sizes.0 in
     let b : 8 * length c.args.body.now ≡ s.rows = omega (arith, h.body) in
-    let w : length c.perm-by.new.out - length c.args.body.now ≡ s.vector - s.body = omega arith in
+    let w : length c.perm_by.new.out - length c.args.body.now ≡ s.vector - s.body = omega arith in
     record { small = (omega (arith, h.shorter), omega (arith, h.body, h.columns, h.small)); within = rw (b, w) (omega (arith, h.matrix)) }
 
 pub returns : goal.returns
@@ -18,10 +18,10 @@ returns c =
     let s = c.args.sizes.now in
     let r = length c.args.body.now in
     let q = length c.args.permuted.now in
-    let m = c.args.public-key.now in
-    let long : length c.perm-by.new.out ≡ q = omega arith in
+    let m = c.args.public_key.now in
+    let long : length c.perm_by.new.out ≡ q = omega arith in
     let F : ℕ → List ℕ → List ℕ = λ n x. packed r (times (8 * n) (systematic (8 * r) (matrix (n - r) m)) (vector x)) in
-    c.systematic-product.ensures
-    ∙ (ap (λ n. F n c.perm-by.new.out) long
-    ∙ (ap (F q) c.perm-by.ensures.after
+    c.systematic_product.ensures
+    ∙ (ap (λ n. F n c.perm_by.new.out) long
+    ∙ (ap (F q) c.perm_by.ensures.after
     ∙ body_is s c.requires.sizes.0 m c.args.head.now c.args.e.now r q (length c.args.positions.now) (omega arith) (omega arith) (omega arith)))

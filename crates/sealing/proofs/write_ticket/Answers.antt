@@ -9,13 +9,13 @@ returns g c =
     let s = c.args.sizes.now in
     record {
       wrote =
-          seals s (g.H.Hash.rule c.args.hash.now) (public_matrix s c.args.public-key.now) (vector c.args.e.now) c.write-head.new.head
-          c.write-body.new.body c.join.new.ticket c.join.ensures
-          (c.write-head.ensures.wrote
+          seals s (g.H.Hash.rule c.args.hash.now) (public_matrix s c.args.public_key.now) (vector c.args.e.now) c.write_head.new.head
+          c.write_body.new.body c.join.new.ticket c.join.ensures
+          (c.write_head.ensures.wrote
           ∙ head_is s (g.H.Hash.rule c.args.hash.now) c.args.e.now c.requires.vectors.0 (λ k. (c.type-inv.e k).fits))
-          c.write-body.ensures;
-      fresh = c.write-head.ensures.fresh;
-      ruled = c.write-head.ensures.ruled;
-      same = c.write-head.ensures.same;
-      kept = c.write-head.ensures.kept;
+          c.write_body.ensures;
+      fresh = c.write_head.ensures.fresh;
+      ruled = c.write_head.ensures.ruled;
+      same = c.write_head.ensures.same;
+      kept = c.write_head.ensures.kept;
     }

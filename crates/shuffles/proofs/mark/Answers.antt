@@ -16,9 +16,9 @@ pub loop-k-preserved : goal.loop-k-preserved
 loop-k-preserved c =
     let l = c.args.order.now in
     let k = c.loop-k.k in (
-      filled_more (length l) (place_of l) (λ _. true) k (get_or l k 0) true c.loop-k.out c.add-bit.new.v
+      filled_more (length l) (place_of l) (λ _. true) k (get_or l k 0) true c.loop-k.out c.add_bit.new.v
           (place_of_lem (length l) l c.requires.permutes k (omega arith))
-          (λ i m e. sym (at_place (length l) l c.requires.permutes i m) ∙ ap (λ p. get_or l p 0) e) refl c.add-bit.ensures c.loop-k.invariant.0,
+          (λ i m e. sym (at_place (length l) l c.requires.permutes i m) ∙ ap (λ p. get_or l p 0) e) refl c.add_bit.ensures c.loop-k.invariant.0,
       λ p. (c.type-inv.out p).fits,
     )
 

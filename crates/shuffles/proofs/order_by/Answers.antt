@@ -9,6 +9,6 @@ unfolding order
 returns c =
     let n = length c.args.positions.now in
     let seed = c.args.seed.now in
-    let e : c.shuffle.new.items ≡ order n seed = c.shuffle.ensures.after ∙ ap (λ (xs : List ℕ). shuffled seed xs) c.count-up.ensures in
+    let e : c.shuffle.new.items ≡ order n seed = c.shuffle.ensures.after ∙ ap (λ (xs : List ℕ). shuffled seed xs) c.count_up.ensures in
     let P : List ℕ → Type 0 = λ l. Permutation n l in
     record { after = e; permutes = subst P (sym e) (order_permutes n seed) }

@@ -14,9 +14,9 @@ loop-j-preserved c =
     let l = c.args.order.now in
     let j = c.loop-j.j in
     let q : place_of l (get_or l j 0) ≡ j = place_of_lem (length l) l c.requires.permutes j (omega arith) in (
-      filled_more (length l) (place_of l) (perm l (vector c.args.v.now)) j (get_or l j 0) c.bit.result c.loop-j.out c.add-bit.new.v q
+      filled_more (length l) (place_of l) (perm l (vector c.args.v.now)) j (get_or l j 0) c.bit.result c.loop-j.out c.add_bit.new.v q
           (λ i m e. sym (at_place (length l) l c.requires.permutes i m) ∙ ap (λ k. get_or l k 0) e)
-          (c.bit.ensures ∙ ap (vector c.args.v.now) (sym q)) c.add-bit.ensures c.loop-j.invariant.0,
+          (c.bit.ensures ∙ ap (vector c.args.v.now) (sym q)) c.add_bit.ensures c.loop-j.invariant.0,
       λ k. (c.type-inv.out k).fits,
     )
 

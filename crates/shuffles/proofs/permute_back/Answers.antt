@@ -12,8 +12,8 @@ loop-j-init c =
 pub loop-j-preserved : goal.loop-j-preserved
 loop-j-preserved c =
     let l = c.args.order.now in (
-      filled_more (length l) (λ i. i) (perm_inv l (vector c.args.v.now)) c.loop-j.j c.loop-j.j c.bit.result c.loop-j.out c.add-bit.new.v refl
-          (λ i m e. e) c.bit.ensures c.add-bit.ensures c.loop-j.invariant.0,
+      filled_more (length l) (λ i. i) (perm_inv l (vector c.args.v.now)) c.loop-j.j c.loop-j.j c.bit.result c.loop-j.out c.add_bit.new.v refl
+          (λ i m e. e) c.bit.ensures c.add_bit.ensures c.loop-j.invariant.0,
       λ k. (c.type-inv.out k).fits,
     )
 

@@ -9,12 +9,12 @@ returns-then-at-sizes g c =
     let key = c.args.key.now in
     let f = g.F.Field.ops in
     let pl = g.F.Field.places in
-    let sup = c.read-code.new.support in
-    let gs = c.read-code.new.g in
-    let es = c.read-code.ensures.support in
-    let eg = c.read-code.ensures.g in
-    let e₁ = support_number f pl s key sup gs es eg c.size-size.result c.first-unfit-at.result c.size-size.ensures c.first-unfit-at.ensures in
-    record { answer = support_fails f pl s key c.first-unfit-at.result e₁ c.if-at-sizes.true; support = es; g = eg }
+    let sup = c.read_code.new.support in
+    let gs = c.read_code.new.g in
+    let es = c.read_code.ensures.support in
+    let eg = c.read_code.ensures.g in
+    let e₁ = support_number f pl s key sup gs es eg c.size-size.result c.first_unfit-at.result c.size-size.ensures c.first_unfit-at.ensures in
+    record { answer = support_fails f pl s key c.first_unfit-at.result e₁ c.if-at-sizes.true; support = es; g = eg }
 
 pub returns-then-at-sizes-2 : goal.returns-then-at-sizes-2
 returns-then-at-sizes-2 g c =
@@ -22,14 +22,14 @@ returns-then-at-sizes-2 g c =
     let key = c.args.key.now in
     let f = g.F.Field.ops in
     let pl = g.F.Field.places in
-    let sup = c.read-code.new.support in
-    let gs = c.read-code.new.g in
-    let es = c.read-code.ensures.support in
-    let eg = c.read-code.ensures.g in
-    let e₁ = support_number f pl s key sup gs es eg c.size-size.result c.first-unfit-at.result c.size-size.ensures c.first-unfit-at.ensures in
-    let e₂ = coefficient_number f pl s key sup gs es eg c.size-size.result c.first-outside-at.result _ c.size-size.ensures (omega arith) c.first-outside-at.ensures in
+    let sup = c.read_code.new.support in
+    let gs = c.read_code.new.g in
+    let es = c.read_code.ensures.support in
+    let eg = c.read_code.ensures.g in
+    let e₁ = support_number f pl s key sup gs es eg c.size-size.result c.first_unfit-at.result c.size-size.ensures c.first_unfit-at.ensures in
+    let e₂ = coefficient_number f pl s key sup gs es eg c.size-size.result c.first_outside-at.result _ c.size-size.ensures (omega arith) c.first_outside-at.ensures in
     record {
-      answer = coefficient_fails f pl s key c.first-unfit-at.result e₁ c.if-at-sizes.false c.first-outside-at.result e₂ c.if-at-sizes-2.true;
+      answer = coefficient_fails f pl s key c.first_unfit-at.result e₁ c.if-at-sizes.false c.first_outside-at.result e₂ c.if-at-sizes-2.true;
       support = es;
       g = eg;
     }
@@ -40,16 +40,16 @@ returns-then-at-sizes-3 g c =
     let key = c.args.key.now in
     let f = g.F.Field.ops in
     let pl = g.F.Field.places in
-    let sup = c.read-code.new.support in
-    let gs = c.read-code.new.g in
-    let es = c.read-code.ensures.support in
-    let eg = c.read-code.ensures.g in
-    let e₁ = support_number f pl s key sup gs es eg c.size-size.result c.first-unfit-at.result c.size-size.ensures c.first-unfit-at.ensures in
-    let e₂ = coefficient_number f pl s key sup gs es eg c.size-size.result c.first-outside-at.result _ c.size-size.ensures (omega arith) c.first-outside-at.ensures in
-    let e₃ = clash_number f pl s key sup gs es eg c.first-clash-at.result c.first-clash-at.ensures in
+    let sup = c.read_code.new.support in
+    let gs = c.read_code.new.g in
+    let es = c.read_code.ensures.support in
+    let eg = c.read_code.ensures.g in
+    let e₁ = support_number f pl s key sup gs es eg c.size-size.result c.first_unfit-at.result c.size-size.ensures c.first_unfit-at.ensures in
+    let e₂ = coefficient_number f pl s key sup gs es eg c.size-size.result c.first_outside-at.result _ c.size-size.ensures (omega arith) c.first_outside-at.ensures in
+    let e₃ = clash_number f pl s key sup gs es eg c.first_clash-at.result c.first_clash-at.ensures in
     record {
       answer =
-          clash_fails f pl s key c.first-unfit-at.result e₁ c.if-at-sizes.false c.first-outside-at.result e₂ c.if-at-sizes-2.false c.first-clash-at.result e₃
+          clash_fails f pl s key c.first_unfit-at.result e₁ c.if-at-sizes.false c.first_outside-at.result e₂ c.if-at-sizes-2.false c.first_clash-at.result e₃
           c.if-at-sizes-3.true;
       support = es;
       g = eg;
@@ -61,18 +61,18 @@ returns-then-found-sizes g c =
     let key = c.args.key.now in
     let f = g.F.Field.ops in
     let pl = g.F.Field.places in
-    let sup = c.read-code.new.support in
-    let gs = c.read-code.new.g in
-    let es = c.read-code.ensures.support in
-    let eg = c.read-code.ensures.g in
-    let e₁ = support_number f pl s key sup gs es eg c.size-size.result c.first-unfit-at.result c.size-size.ensures c.first-unfit-at.ensures in
-    let e₂ = coefficient_number f pl s key sup gs es eg c.size-size.result c.first-outside-at.result _ c.size-size.ensures (omega arith) c.first-outside-at.ensures in
-    let e₃ = clash_number f pl s key sup gs es eg c.first-clash-at.result c.first-clash-at.ensures in
-    let e₄ = zeros_number f pl s key sup gs es eg c.zeros-in-field-found.result c.zeros-in-field-found.ensures in
+    let sup = c.read_code.new.support in
+    let gs = c.read_code.new.g in
+    let es = c.read_code.ensures.support in
+    let eg = c.read_code.ensures.g in
+    let e₁ = support_number f pl s key sup gs es eg c.size-size.result c.first_unfit-at.result c.size-size.ensures c.first_unfit-at.ensures in
+    let e₂ = coefficient_number f pl s key sup gs es eg c.size-size.result c.first_outside-at.result _ c.size-size.ensures (omega arith) c.first_outside-at.ensures in
+    let e₃ = clash_number f pl s key sup gs es eg c.first_clash-at.result c.first_clash-at.ensures in
+    let e₄ = zeros_number f pl s key sup gs es eg c.zeros_in_field-found.result c.zeros_in_field-found.ensures in
     record {
       answer =
-          zeros_fail f pl s key c.first-unfit-at.result e₁ c.if-at-sizes.false c.first-outside-at.result e₂ c.if-at-sizes-2.false c.first-clash-at.result e₃
-          c.if-at-sizes-3.false c.zeros-in-field-found.result e₄ c.if-found-sizes.true;
+          zeros_fail f pl s key c.first_unfit-at.result e₁ c.if-at-sizes.false c.first_outside-at.result e₂ c.if-at-sizes-2.false c.first_clash-at.result e₃
+          c.if-at-sizes-3.false c.zeros_in_field-found.result e₄ c.if-found-sizes.true;
       support = es;
       g = eg;
     }
@@ -83,18 +83,18 @@ returns g c =
     let key = c.args.key.now in
     let f = g.F.Field.ops in
     let pl = g.F.Field.places in
-    let sup = c.read-code.new.support in
-    let gs = c.read-code.new.g in
-    let es = c.read-code.ensures.support in
-    let eg = c.read-code.ensures.g in
-    let e₁ = support_number f pl s key sup gs es eg c.size-size.result c.first-unfit-at.result c.size-size.ensures c.first-unfit-at.ensures in
-    let e₂ = coefficient_number f pl s key sup gs es eg c.size-size.result c.first-outside-at.result _ c.size-size.ensures (omega arith) c.first-outside-at.ensures in
-    let e₃ = clash_number f pl s key sup gs es eg c.first-clash-at.result c.first-clash-at.ensures in
-    let e₄ = zeros_number f pl s key sup gs es eg c.zeros-in-field-found.result c.zeros-in-field-found.ensures in
+    let sup = c.read_code.new.support in
+    let gs = c.read_code.new.g in
+    let es = c.read_code.ensures.support in
+    let eg = c.read_code.ensures.g in
+    let e₁ = support_number f pl s key sup gs es eg c.size-size.result c.first_unfit-at.result c.size-size.ensures c.first_unfit-at.ensures in
+    let e₂ = coefficient_number f pl s key sup gs es eg c.size-size.result c.first_outside-at.result _ c.size-size.ensures (omega arith) c.first_outside-at.ensures in
+    let e₃ = clash_number f pl s key sup gs es eg c.first_clash-at.result c.first_clash-at.ensures in
+    let e₄ = zeros_number f pl s key sup gs es eg c.zeros_in_field-found.result c.zeros_in_field-found.ensures in
     record {
       answer =
-          code_passes f pl s key c.first-unfit-at.result e₁ c.if-at-sizes.false c.first-outside-at.result e₂ c.if-at-sizes-2.false c.first-clash-at.result e₃
-          c.if-at-sizes-3.false c.zeros-in-field-found.result e₄ c.if-found-sizes.false;
+          code_passes f pl s key c.first_unfit-at.result e₁ c.if-at-sizes.false c.first_outside-at.result e₂ c.if-at-sizes-2.false c.first_clash-at.result e₃
+          c.if-at-sizes-3.false c.zeros_in_field-found.result e₄ c.if-found-sizes.false;
       support = es;
       g = eg;
     }

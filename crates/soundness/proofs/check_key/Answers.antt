@@ -1,13 +1,13 @@
 use Rattle.std.proofs.Common.{mul-le-mul_left, arith}
 use Rattle.soundness.proofs.check_key.Goals as goal
 
-pub slice-bounds-check-parts-end : goal.slice-bounds-check-parts-end
-slice-bounds-check-parts-end g c =
+pub slice-bounds-check_parts-end : goal.slice-bounds-check_parts-end
+slice-bounds-check_parts-end g c =
     let s = c.args.sizes.now in
     let h = c.requires.sizes.0 in
     omega (arith, h.mixed, mul-le-mul_left s.rows h.shorter)
 
-pub check-parts-requires : goal.check-parts-requires
-check-parts-requires g c =
+pub check_parts-requires : goal.check_parts-requires
+check_parts-requires g c =
     let h = c.requires.sizes.0 in
     record { sizes = c.requires.sizes; long = (omega arith, (omega arith, (omega arith, omega (arith, h.tests)))); work = (omega arith, omega (arith, h.places)) }

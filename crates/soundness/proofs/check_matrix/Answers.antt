@@ -15,17 +15,17 @@ returns-then-at-sizes g c =
     let h = c.requires.sizes.0 in
     let f = g.F.Field.ops in
     let pl = g.F.Field.places in
-    let B = matrix s.body c.write-mixed.new.m in
+    let B = matrix s.body c.write_mixed.new.m in
     let HP : Matrix = mixed_in f pl s key in
-    let at = c.first-difference-at.result in
-    let l : c.order-by.new.positions ≡ order s.n (mixing_in s key) =
-    order_read s key c.order-by.new.positions (length c.args.positions.now) (omega arith) c.order-by.ensures.after in
+    let at = c.first_difference-at.result in
+    let l : c.order_by.new.positions ≡ order s.n (mixing_in s key) =
+    order_read s key c.order_by.new.positions (length c.args.positions.now) (omega arith) c.order_by.ensures.after in
     let same : (i j : ℕ) → i < s.rows → j < s.rows → B i j ≡ HP i j =
-    mixed_front f pl s key c.args.support.now c.args.g.now c.requires.code.1.0 c.requires.code.0 h g.F.Field.bits (length c.args.column.now) B c.order-by.new.positions
-    (mixing_in s key) c.requires.sizes.1.0 (omega arith) l refl c.write-mixed.ensures in
+    mixed_front f pl s key c.args.support.now c.args.g.now c.requires.code.1.0 c.requires.code.0 h g.F.Field.bits (length c.args.column.now) B c.order_by.new.positions
+    (mixing_in s key) c.requires.sizes.1.0 (omega arith) l refl c.write_mixed.ensures in
     let e₁ =
     difference_number s.rows (matrix_in s key) at (8 * s.body) B HP h.body same
-    (c.first-difference-at.ensures ∙ ap (λ (M : Matrix). first_place s.rows (λ i. not (eqb (weight (8 * s.body) (λ j. M i j ⊕ B i j)) 0))) (matrix_part s key)) in
+    (c.first_difference-at.ensures ∙ ap (λ (M : Matrix). first_place s.rows (λ i. not (eqb (weight (8 * s.body) (λ j. M i j ⊕ B i j)) 0))) (matrix_part s key)) in
     matrix_fails f pl s key at e₁ c.if-at-sizes.true
 
 pub returns-then-found-sizes : goal.returns-then-found-sizes
@@ -35,17 +35,17 @@ returns-then-found-sizes g c =
     let h = c.requires.sizes.0 in
     let f = g.F.Field.ops in
     let pl = g.F.Field.places in
-    let B = matrix s.body c.write-mixed.new.m in
+    let B = matrix s.body c.write_mixed.new.m in
     let HP : Matrix = mixed_in f pl s key in
-    let at = c.first-difference-at.result in
-    let l : c.order-by.new.positions ≡ order s.n (mixing_in s key) =
-    order_read s key c.order-by.new.positions (length c.args.positions.now) (omega arith) c.order-by.ensures.after in
+    let at = c.first_difference-at.result in
+    let l : c.order_by.new.positions ≡ order s.n (mixing_in s key) =
+    order_read s key c.order_by.new.positions (length c.args.positions.now) (omega arith) c.order_by.ensures.after in
     let same : (i j : ℕ) → i < s.rows → j < s.rows → B i j ≡ HP i j =
-    mixed_front f pl s key c.args.support.now c.args.g.now c.requires.code.1.0 c.requires.code.0 h g.F.Field.bits (length c.args.column.now) B c.order-by.new.positions
-    (mixing_in s key) c.requires.sizes.1.0 (omega arith) l refl c.write-mixed.ensures in
+    mixed_front f pl s key c.args.support.now c.args.g.now c.requires.code.1.0 c.requires.code.0 h g.F.Field.bits (length c.args.column.now) B c.order_by.new.positions
+    (mixing_in s key) c.requires.sizes.1.0 (omega arith) l refl c.write_mixed.ensures in
     let e₁ =
     difference_number s.rows (matrix_in s key) at (8 * s.body) B HP h.body same
-    (c.first-difference-at.ensures ∙ ap (λ (M : Matrix). first_place s.rows (λ i. not (eqb (weight (8 * s.body) (λ j. M i j ⊕ B i j)) 0))) (matrix_part s key)) in
+    (c.first_difference-at.ensures ∙ ap (λ (M : Matrix). first_place s.rows (λ i. not (eqb (weight (8 * s.body) (λ j. M i j ⊕ B i j)) 0))) (matrix_part s key)) in
     let e₂ = rank_number s.rows (matrix_in s key) at c.rank-found.result (8 * s.body) B HP h.body same e₁ c.if-at-sizes.false c.rank-found.ensures.number in
     rank_fails f pl s key at e₁ c.if-at-sizes.false c.rank-found.result e₂ c.if-found-sizes.true
 
@@ -56,16 +56,16 @@ returns g c =
     let h = c.requires.sizes.0 in
     let f = g.F.Field.ops in
     let pl = g.F.Field.places in
-    let B = matrix s.body c.write-mixed.new.m in
+    let B = matrix s.body c.write_mixed.new.m in
     let HP : Matrix = mixed_in f pl s key in
-    let at = c.first-difference-at.result in
-    let l : c.order-by.new.positions ≡ order s.n (mixing_in s key) =
-    order_read s key c.order-by.new.positions (length c.args.positions.now) (omega arith) c.order-by.ensures.after in
+    let at = c.first_difference-at.result in
+    let l : c.order_by.new.positions ≡ order s.n (mixing_in s key) =
+    order_read s key c.order_by.new.positions (length c.args.positions.now) (omega arith) c.order_by.ensures.after in
     let same : (i j : ℕ) → i < s.rows → j < s.rows → B i j ≡ HP i j =
-    mixed_front f pl s key c.args.support.now c.args.g.now c.requires.code.1.0 c.requires.code.0 h g.F.Field.bits (length c.args.column.now) B c.order-by.new.positions
-    (mixing_in s key) c.requires.sizes.1.0 (omega arith) l refl c.write-mixed.ensures in
+    mixed_front f pl s key c.args.support.now c.args.g.now c.requires.code.1.0 c.requires.code.0 h g.F.Field.bits (length c.args.column.now) B c.order_by.new.positions
+    (mixing_in s key) c.requires.sizes.1.0 (omega arith) l refl c.write_mixed.ensures in
     let e₁ =
     difference_number s.rows (matrix_in s key) at (8 * s.body) B HP h.body same
-    (c.first-difference-at.ensures ∙ ap (λ (M : Matrix). first_place s.rows (λ i. not (eqb (weight (8 * s.body) (λ j. M i j ⊕ B i j)) 0))) (matrix_part s key)) in
+    (c.first_difference-at.ensures ∙ ap (λ (M : Matrix). first_place s.rows (λ i. not (eqb (weight (8 * s.body) (λ j. M i j ⊕ B i j)) 0))) (matrix_part s key)) in
     let e₂ = rank_number s.rows (matrix_in s key) at c.rank-found.result (8 * s.body) B HP h.body same e₁ c.if-at-sizes.false c.rank-found.ensures.number in
     matrix_passes f pl s key at e₁ c.if-at-sizes.false c.rank-found.result e₂ c.if-found-sizes.false

@@ -10,10 +10,10 @@ returns g c =
     let f = g.F.Field.ops in
     let pl = g.F.Field.places in
     record {
-      support = c.read-words.ensures ∙ (ap (words_from key 0) (omega arith) ∙ support_words s key);
+      support = c.read_words.ensures ∙ (ap (words_from key 0) (omega arith) ∙ support_words s key);
       g =
-          monic_set s.t c.read-words-2.new.out c.args.g.now c.place.result (omega arith) (omega arith)
-          ∙ (ap₂ (λ (x : List ℕ) y. x ++ (y ∷ [])) (c.read-words-2.ensures ∙ ap (words_from key s.n) (omega arith))
+          monic_set s.t c.read_words-2.new.out c.args.g.now c.place.result (omega arith) (omega arith)
+          ∙ (ap₂ (λ (x : List ℕ) y. x ++ (y ∷ [])) (c.read_words-2.ensures ∙ ap (words_from key s.n) (omega arith))
           (c.place.ensures ∙ ap pl.num c.one.ensures)
           ∙ goppa_words f pl s key);
     }

@@ -31,11 +31,11 @@ loop-j-preserved g c =
     let t = length c.clear.new.p in
     let en : length c.loop-j.sum ≡ t = omega arith in (
       λ r l.
-          c.add-chosen.ensures.sum r (omega arith)
+          c.add_chosen.ensures.sum r (omega arith)
           ∙ ap₂ (λ n b. f.add (coefs pl c.loop-j.sum r) (cond b (pl.at (column_place f pl n gs (get_or sup j 0) r)) f.zero)) en c.bit.ensures
           ∙ ap (λ x. f.add x (cond (e j) (pl.at (column_place f pl t gs (get_or sup j 0) r)) f.zero)) (c.loop-j.invariant.0 r l)
           ∙ sym (column_sum_more f pl t gs sup j e r),
-      c.add-chosen.ensures.placed c.loop-j.invariant.1,
+      c.add_chosen.ensures.placed c.loop-j.invariant.1,
     )
 
 pub returns : goal.returns

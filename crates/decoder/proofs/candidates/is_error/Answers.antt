@@ -19,12 +19,12 @@ returns g c =
     let sup = c.args.support.now in
     let s = c.args.s.now in
     let e = vector c.args.e.now in
-    let sum = c.add-columns.new.sum in
+    let sum = c.add_columns.new.sum in
     let t = length s in
     let en : length c.args.sum.now ≡ t = c.requires.fits.1.0 in
     let pos = c.requires.syndrome.1 in
     let placed = c.requires.syndrome.0 in
-    let made = c.add-columns.ensures in (
+    let made = c.add_columns.ensures in (
       λ same. record {
         weighs = omega arith;
         sums = sums_from k pl z xor t G sup s (bits_of m s) pos placed (λ i l. refl) e

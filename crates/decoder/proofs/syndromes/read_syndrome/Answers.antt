@@ -11,8 +11,8 @@ use Rattle.decoder.proofs.syndromes.read_syndrome.Goals as goal
 row_within : (m r t : ℕ) → r < t → m * r + m ≤ m * t
 row_within m r t l = let h : m * suc r ≤ m * t = mul-le m (suc r) m t (omega arith) (omega arith) in omega (arith, mul-suc m r)
 
-pub overflow-mul-m : goal.overflow-mul-m
-overflow-mul-m g c =
+pub overflow_mul-m : goal.overflow_mul-m
+overflow_mul-m g c =
     let m = g.F.Field.bits in
     let em : c.get-m.result ≡ m = c.get-m.ensures ∙ g.met.F.Field.degree in
     let P : ℕ → Type 0 = λ n. n * c.loop-r.r < 2 ^ 64 in
@@ -20,8 +20,8 @@ overflow-mul-m g c =
     let small : c.get-m.result * c.loop-r.r < 2 ^ 64 = subst P (sym em) h in
     omega (arith, small)
 
-pub number-at-requires : goal.number-at-requires
-number-at-requires g c =
+pub number_at-requires : goal.number_at-requires
+number_at-requires g c =
     let m = g.F.Field.bits in
     let r = c.loop-r.r in
     let em : c.get-m.result ≡ m = c.get-m.ensures ∙ g.met.F.Field.degree in
@@ -36,10 +36,10 @@ loop-r-preserved g c =
     let em : c.get-m.result ≡ m = c.get-m.ensures ∙ g.met.F.Field.degree in
     let v = vector c.args.syndrome.now in
     let r = c.loop-r.r in
-    let x = c.number-at.result in
+    let x = c.number_at.result in
     let R : ℕ → ℕ → Type 0 = λ j y. (y < 2 ^ m) × ((i : ℕ) → i < m → number_bit y i ≡ v (m * j + i)) in
     let P : ℕ → Type 0 = λ d. (x < 2 ^ d) × ((i : ℕ) → i < d → number_bit x i ≡ v (d * r + i)) in
-    below_set c.loop-r.s r x (omega arith) R c.loop-r.invariant (subst P em (c.number-at.ensures.below, c.number-at.ensures.bits))
+    below_set c.loop-r.s r x (omega arith) R c.loop-r.invariant (subst P em (c.number_at.ensures.below, c.number_at.ensures.bits))
 
 pub returns : goal.returns
 unfolding bits_of

@@ -11,23 +11,23 @@ use Rattle.decoding.proofs.locate.find_locator.Goals as goal
 perfect : (g : Rattle.decoding.proofs.locate.find_locator.Given.Over) → Perfect g.F.Field.ops
 perfect g = record { laws = g.met.F.Field.laws; same = same_from g.F.Field.places; roots = g.met.F.BinaryField.roots }
 
-pub returns-then-not-within-bounds : goal.returns-then-not-within-bounds
-returns-then-not-within-bounds g c =
+pub returns-then-not-within_bounds : goal.returns-then-not-within_bounds
+returns-then-not-within_bounds g c =
     let f = g.F.Field.ops in
     let pl = g.F.Field.places in
     let x = c.prepare-n1.new in
     λ zs sup code.
     none_found (perfect g) c.args.t c.requires.code.1.1.1.0 (value f pl c.args.g.now) (value f pl c.args.s.now) (value f pl x.v) zs sup code
     c.prepare-n1.result.0 c.prepare-n1.result.1 (value f pl x.g1) (value f pl x.g2) (value f pl x.s1) (value f pl x.v2) (value f pl x.g12)
-    (c.prepare-n1.ensures.prepared zs code.splits.zeros) c.if-not-within-bounds.ensures
+    (c.prepare-n1.ensures.prepared zs code.splits.zeros) c.if-not-within_bounds.ensures
 
-pub key-root-requires : goal.key-root-requires
-key-root-requires g c =
+pub key_root-requires : goal.key_root-requires
+key_root-requires g c =
     let t = c.args.t in
     let x = c.prepare-n1.new in
     let n1 = c.prepare-n1.result.0 in
     let n2 = c.prepare-n1.result.1 in
-    let ok : (n1 < suc t / 2) × (n2 ≤ t / 2) = c.if-not-within-bounds.ensures in
+    let ok : (n1 < suc t / 2) × (n2 ≤ t / 2) = c.if-not-within_bounds.ensures in
     let two : 2 ≤ t = c.requires.code.1.1.1.0 in
     let kept = c.prepare-n1.auto in
     let l12 : length x.g12 ≡ t + 1 = kept.g12 ∙ c.requires.quotients.0 in
@@ -41,8 +41,8 @@ key-root-requires g c =
       degree = c.prepare-n1.ensures.degree_rest (omega arith);
     }
 
-pub join-parts-requires : goal.join-parts-requires
-join-parts-requires g c =
+pub join_parts-requires : goal.join_parts-requires
+join_parts-requires g c =
     let k = g.met.F.Field.laws in
     let pl = g.F.Field.places in
     let t = c.args.t in
@@ -51,7 +51,7 @@ join-parts-requires g c =
     let n1 = c.prepare-n1.result.0 in
     let n2 = c.prepare-n1.result.1 in
     let d = c.key_solution.result in
-    let ok : (n1 < suc t / 2) × (n2 ≤ t / 2) = c.if-not-within-bounds.ensures in
+    let ok : (n1 < suc t / 2) × (n2 ≤ t / 2) = c.if-not-within_bounds.ensures in
     let high : t / 2 - n2 + 1 ≤ d = c.key_solution.ensures.high.0 in
     let lr : length y.r ≡ t + 1 = c.key_solution.auto.r ∙ c.key_root.auto.r ∙ c.prepare-n1.auto.r ∙ c.requires.work.0 in
     let lb : length y.b ≡ t + 1 = c.key_solution.auto.b ∙ c.key_root.auto.b ∙ c.prepare-n1.auto.b ∙ c.requires.work.1.1.0 in
@@ -79,11 +79,11 @@ returns g c =
     let n1 = c.prepare-n1.result.0 in
     let n2 = c.prepare-n1.result.1 in
     let d = c.key_solution.result in
-    let ok : (n1 < suc t / 2) × (n2 ≤ t / 2) = c.if-not-within-bounds.ensures in
+    let ok : (n1 < suc t / 2) × (n2 ≤ t / 2) = c.if-not-within_bounds.ensures in
     let high : t / 2 - n2 + 1 ≤ d = c.key_solution.ensures.high.0 in
     λ zs sup code.
     located (perfect g) t c.requires.code.1.1.1.0 (value f pl c.args.g.now) (value f pl c.args.s.now) (value f pl x.v) zs sup code n1 n2
     (value f pl x.g1) (value f pl x.g2) (value f pl x.s1) (value f pl x.v2) (value f pl x.g12) (c.prepare-n1.ensures.prepared zs code.splits.zeros)
-    (value f pl y.r) (value f pl y.b) (value f pl c.key_root.new.out) d (value f pl y.s) (value f pl y.a) (value f pl c.join-parts.new.out)
+    (value f pl y.r) (value f pl y.b) (value f pl c.key_root.new.out) d (value f pl y.s) (value f pl y.a) (value f pl c.join_parts.new.out)
     c.key_root.ensures.root c.key_solution.ensures.state (poly_of k pl z y.r (suc (t / 2 - n2)) (λ i u. c.key_solution.ensures.low.0 i (omega (arith, u))))
-    (omega (arith, ok.1, high)) c.join-parts.ensures
+    (omega (arith, ok.1, high)) c.join_parts.ensures

@@ -14,8 +14,8 @@ loop-i-preserved g c =
     let f = g.F.Field.ops in
     let i = c.loop-i.i in
     let out = c.loop-i.out in
-    let x = c.square-at.result in
-    let y = c.square-at-in-loop-i.result in
+    let x = c.square_at.result in
+    let y = c.square_at-in-loop-i.result in
     let one = set out (2 * i) x in
     let long : length one ≡ length out = length-set out (2 * i) x in
     let p = c.args.p.now in
@@ -25,14 +25,14 @@ loop-i-preserved g c =
         | no l ↦
             let e : i ≡ j = omega arith in
             subst (λ n. get_or (set one (2 * i + 1) y) (2 * n) 0 ≡ pl.num (f.mul (coefs pl p n) (coefs pl p n))) e
-            (get_or-set_other one (2 * i + 1) (2 * i) y 0 (omega arith) ∙ get_or-set_same out (2 * i) x 0 (omega arith) ∙ c.square-at.ensures)
+            (get_or-set_other one (2 * i + 1) (2 * i) y 0 (omega arith) ∙ get_or-set_same out (2 * i) x 0 (omega arith) ∙ c.square_at.ensures)
       ],
       λ j h. elim (dec_lt j i) [
         | yes l ↦ get_or-set_other one (2 * i + 1) (2 * j + 1) y 0 (omega arith) ∙ get_or-set_other out (2 * i) (2 * j + 1) x 0 (omega arith) ∙ c.loop-i.invariant.1 j l
         | no l ↦
             let e : i ≡ j = omega arith in
             subst (λ n. get_or (set one (2 * i + 1) y) (2 * n + 1) 0 ≡ pl.num (f.mul (coefs pl q n) (coefs pl q n))) e
-            (get_or-set_same one (2 * i + 1) y 0 (omega arith) ∙ c.square-at-in-loop-i.ensures)
+            (get_or-set_same one (2 * i + 1) y 0 (omega arith) ∙ c.square_at-in-loop-i.ensures)
       ],
     )
 

@@ -18,6 +18,6 @@ returns g c =
     let out = c.gcd.new.s in
     let of : List ℕ → Series g.row.F.Denot = coefs pl in
     let first : Gcd f t n (of G) (of c.copy.new.into) (of out) =
-    subst (λ (l : List ℕ). Gcd f t n (of l) (of c.copy.new.into) (of out)) c.copy-from-slice.ensures.after c.gcd.ensures.is in
+    subst (λ (l : List ℕ). Gcd f t n (of l) (of c.copy.new.into) (of out)) c.copy_from_slice.ensures.after c.gcd.ensures.is in
     let made : Gcd f t n (of G) (of q) (of out) = subst (λ (s : Series g.row.F.Denot). Gcd f t n (of G) s (of out)) c.copy.ensures first in
     record { divisor = divisor_of k pl z t n G q out made; degree = (made.within, divisor_degree k pl z t n G q out made) }

@@ -15,12 +15,12 @@ returns g c =
     let none : coefs pl cleared ≡ (poly f).zero = ap (coefs pl) c.clear.ensures ∙ coefs_zeros k pl z (length c.args.v.now) in
     let wrote = write_new k pl z cleared 0 c.place.result c.one.result (omega arith) (ap (λ l. get_or l 0 0) c.clear.ensures ∙ get_d_zeros (length c.args.v.now) 0) c.place.ensures in
     let first = one_write k (coefs pl cleared) _ none (wrote ∙ ap (λ x. (poly f).add (coefs pl cleared) (mono f x 0)) c.one.ensures) in
-    let b = c.add-scaled.new.into in
-    let l = c.add-multiple.new.into in
+    let b = c.add_scaled.new.into in
+    let l = c.add_multiple.new.into in
     let unit = c.one-2.ensures in
-    let put = c.add-scaled.ensures.is in
+    let put = c.add_scaled.ensures.is in
     let read : c.read-c.result ≡ coefs pl b c.args.t = c.read-c.ensures ∙ sym (coefs_at k pl b c.args.t) in
     record {
-      under = shifted_under k pl z b l c.args.g.now c.args.t c.read-c.result (omega (arith, length-set cleared 0 c.place.result)) read c.requires.monic c.add-multiple.ensures.is;
-      values = shifted_value k pl z _ b l c.args.s.now c.args.g.now c.read-c.result first (cc) c.add-multiple.ensures.is;
+      under = shifted_under k pl z b l c.args.g.now c.args.t c.read-c.result (omega (arith, length-set cleared 0 c.place.result)) read c.requires.monic c.add_multiple.ensures.is;
+      values = shifted_value k pl z _ b l c.args.s.now c.args.g.now c.read-c.result first (cc) c.add_multiple.ensures.is;
     }

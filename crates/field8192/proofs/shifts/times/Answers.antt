@@ -5,8 +5,8 @@ use Rattle.field8192.specs.Folds.{folded, grouped}
 use Rattle.field8192.proofs.Quick.{grouped_is, grouped_below, highest}
 use Rattle.field8192.proofs.shifts.times.Goals as goal
 
-pub overflow-mul-r : goal.overflow-mul-r
-overflow-mul-r c =
+pub overflow_mul-r : goal.overflow_mul-r
+overflow_mul-r c =
     let h : c.args.a * (c.args.b / 4096) ≤ 8191 * 1 = mul-le c.args.a (c.args.b / 4096) 8191 1 (omega arith) (omega arith) in
     record { fits = omega arith }
 

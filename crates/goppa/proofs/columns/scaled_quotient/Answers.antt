@@ -25,7 +25,7 @@ loop-r-preserved g c =
     let step = value_step k pl g.met.F.Field.origin G a (r + 1) ∙ ap (λ n. f.add (coefs pl G (r + 1)) (f.mul a (value f pl (drop n G) a))) up in
     let is = coefs_at k pl G (r + 1) in
     let before = inv.0 in
-    let new : c.add-product-q.result ≡ value f pl (drop (r + 1) G) a = cc in
+    let new : c.add_product-q.result ≡ value f pl (drop (r + 1) G) a = cc in
     let wrote : c.place.result ≡ pl.num (f.mul c.args.e (value f pl (drop (r + 1) G) a)) = cc in
     let within : r < length c.loop-r.out = omega arith in (
       new,

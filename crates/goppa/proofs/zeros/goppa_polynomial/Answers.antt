@@ -27,8 +27,8 @@ loop-i-init g c =
     )
 
 -- before a turn the last coefficient is zero
-pub times-linear-requires : goal.times-linear-requires
-times-linear-requires g c =
+pub times_linear-requires : goal.times_linear-requires
+times_linear-requires g c =
     let k = g.met.F.Field.laws in
     let f = g.F.Field.ops in
     let pl = g.F.Field.places in
@@ -43,8 +43,8 @@ pub loop-i-preserved : goal.loop-i-preserved
 loop-i-preserved g c =
     let e = from_more g.met.F.Field.laws g.F.Field.places g.met.F.Field.origin c.args.zeros.now c.loop-i.i (omega arith) (omega arith) in
     let inv = c.loop-i.invariant.0 in
-    let got = c.times-linear.ensures.product in
-    (cc, c.times-linear.ensures.written)
+    let got = c.times_linear.ensures.product in
+    (cc, c.times_linear.ensures.written)
 
 pub returns : goal.returns
 returns g c =

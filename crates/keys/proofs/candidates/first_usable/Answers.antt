@@ -13,23 +13,23 @@ use Rattle.keys.proofs.candidates.first_usable.Goals as goal
 pub loop-c-preserved : goal.loop-c-preserved
 loop-c-preserved g c =
     let r = 8 * c.args.body in
-    done_more r r c.loop-c.c (matrix c.args.body c.write-mixed.new.m) (matrix c.args.body c.loop-c.square)
+    done_more r r c.loop-c.c (matrix c.args.body c.write_mixed.new.m) (matrix c.args.body c.loop-c.square)
     (matrix c.args.body c.settle.new.m) c.loop-c.invariant c.if-not-settle.ensures.1
 
 pub seeds-preserved : goal.seeds-preserved
 seeds-preserved g c =
     let w = c.args.body in
     let HP : ℕ → List ℕ → Matrix = λ t l. mixed_matrix g.F.Field.ops g.F.Field.places t c.args.g.now c.args.support.now l in
-    let xs = c.write-mixed.new.m in
+    let xs = c.write_mixed.new.m in
     let ec : length c.seeds.column ≡ length c.args.column.now = omega arith in
     let ep : length c.seeds.positions ≡ length c.args.positions.now = omega arith in
-    let eo : c.order-by.new.positions ≡ order (length c.args.positions.now) (seed_of c.args.seeds.now c.seeds.i) =
-    c.order-by.ensures.after ∙ rw (ep, c.seed-at.ensures.is) in
-    let is : HP (length c.seeds.column) c.order-by.new.positions ≡ HP (length c.args.column.now) (order (length c.args.positions.now) (seed_of c.args.seeds.now c.seeds.i)) =
+    let eo : c.order_by.new.positions ≡ order (length c.args.positions.now) (seed_of c.args.seeds.now c.seeds.i) =
+    c.order_by.ensures.after ∙ rw (ep, c.seed_at.ensures.is) in
+    let is : HP (length c.seeds.column) c.order_by.new.positions ≡ HP (length c.args.column.now) (order (length c.args.positions.now) (seed_of c.args.seeds.now c.seeds.i)) =
     ap₂ HP ec eo in (
       c.seeds.invariant.0,
       below_more _ _ c.seeds.invariant.1
-          (front_dependent w (g.F.Field.bits * length c.seeds.column) xs _ _ (rw ec c.requires.field.1.1) is c.write-mixed.ensures
+          (front_dependent w (g.F.Field.bits * length c.seeds.column) xs _ _ (rw ec c.requires.field.1.1) is c.write_mixed.ensures
           (done_stuck (8 * w) (8 * w) c.loop-c.c (matrix w xs) (matrix w c.loop-c.square) (omega arith) (omega arith) c.loop-c.invariant c.if-not-settle.ensures.1)),
     )
 
@@ -41,17 +41,17 @@ pub returns-after-loop-c : goal.returns-after-loop-c
 returns-after-loop-c g c =
     let w = c.args.body in
     let HP : ℕ → List ℕ → Matrix = λ t l. mixed_matrix g.F.Field.ops g.F.Field.places t c.args.g.now c.args.support.now l in
-    let xs = c.write-mixed.new.m in
+    let xs = c.write_mixed.new.m in
     let ec : length c.seeds.column ≡ length c.args.column.now = omega arith in
     let ep : length c.seeds.positions ≡ length c.args.positions.now = omega arith in
-    let eo : c.order-by.new.positions ≡ order (length c.args.positions.now) (seed_of c.args.seeds.now c.seeds.i) =
-    c.order-by.ensures.after ∙ rw (ep, c.seed-at.ensures.is) in
-    let is : HP (length c.seeds.column) c.order-by.new.positions ≡ HP (length c.args.column.now) (order (length c.args.positions.now) (seed_of c.args.seeds.now c.seeds.i)) =
+    let eo : c.order_by.new.positions ≡ order (length c.args.positions.now) (seed_of c.args.seeds.now c.seeds.i) =
+    c.order_by.ensures.after ∙ rw (ep, c.seed_at.ensures.is) in
+    let is : HP (length c.seeds.column) c.order_by.new.positions ≡ HP (length c.args.column.now) (order (length c.args.positions.now) (seed_of c.args.seeds.now c.seeds.i)) =
     ap₂ HP ec eo in
     record {
       is =
           sym (first_is _ _ c.seeds.i (omega arith) c.seeds.invariant.1
-          (λ l. front_independent w (g.F.Field.bits * length c.seeds.column) xs _ _ (rw ec c.requires.field.1.1) is c.write-mixed.ensures
+          (λ l. front_independent w (g.F.Field.bits * length c.seeds.column) xs _ _ (rw ec c.requires.field.1.1) is c.write_mixed.ensures
           c.loop-c.c (matrix w c.loop-c.square) (omega arith) c.loop-c.invariant));
       within = omega arith;
     }

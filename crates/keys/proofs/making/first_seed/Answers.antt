@@ -2,14 +2,14 @@ use Rattle.std.proofs.Common.{◌≡◌, ◌*◌, length, sym, ap, ◌∙◌, ar
 use Rattle.keys.proofs.Steps.{square_fits, bits_rows, taken_same}
 use Rattle.keys.proofs.making.first_seed.Goals as goal
 
-pub first-usable-requires : goal.first-usable-requires
-first-usable-requires g c =
+pub first_usable-requires : goal.first_usable-requires
+first_usable-requires g c =
     let s = c.args.sizes.now in
     let h = c.requires.sizes.0 in
-    let es = c.support-of-support.ensures in
-    let ln : length c.support-of-support.result.now ≡ s.n = ap length es ∙ c.write-code.ensures.long in
+    let es = c.support_of-support.ensures in
+    let ln : length c.support_of-support.result.now ≡ s.n = ap length es ∙ c.write_code.ensures.long in
     record {
-      code = (omega arith, (omega (arith, h.corrects), λ k l. rw es (c.write-code.ensures.off k (omega arith))));
+      code = (omega arith, (omega (arith, h.corrects), λ k l. rw es (c.write_code.ensures.off k (omega arith))));
       field = (
         omega (arith, h.narrow, c.requires.sizes.1),
         (omega (arith, h.positive, c.requires.sizes.1), bits_rows s h g.F.Field.bits (length c.args.column.now) c.requires.sizes.1 (omega arith)),
@@ -21,14 +21,14 @@ first-usable-requires g c =
 pub returns : goal.returns
 returns g c =
     let s = c.args.sizes.now in
-    let is = c.write-code.ensures in
+    let is = c.write_code.ensures in
     record {
       taken =
-          c.first-usable.ensures.is
-          ∙ taken_same g.F.Field.ops g.F.Field.places s c.args.code-seed.now c.args.mixing-seeds.now (8 * s.body) (length c.args.column.now) (length c.args.positions.now)
-          c.write-code.new.g c.support-of-support.result.now
-          (sym c.requires.sizes.0.body) (omega arith) (omega arith) is.g (c.support-of-support.ensures ∙ is.support);
-      within = c.first-usable.ensures.within;
+          c.first_usable.ensures.is
+          ∙ taken_same g.F.Field.ops g.F.Field.places s c.args.code_seed.now c.args.mixing_seeds.now (8 * s.body) (length c.args.column.now) (length c.args.positions.now)
+          c.write_code.new.g c.support_of-support.result.now
+          (sym c.requires.sizes.0.body) (omega arith) (omega arith) is.g (c.support_of-support.ensures ∙ is.support);
+      within = c.first_usable.ensures.within;
       support = is.support;
       g = is.g;
       long = is.long;

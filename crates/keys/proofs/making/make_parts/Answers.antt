@@ -11,26 +11,26 @@ use Rattle.keys.proofs.Pairs.{pair}
 use Rattle.keys.proofs.Steps.{none_usable, one_usable, taken_usable, seed_length, mixed_is, secret_is}
 use Rattle.keys.proofs.making.make_parts.Goals as goal
 
-pub returns-then-taken-mixing-seeds : goal.returns-then-taken-mixing-seeds
-returns-then-taken-mixing-seeds g c =
+pub returns-then-taken-mixing_seeds : goal.returns-then-taken-mixing_seeds
+returns-then-taken-mixing_seeds g c =
     record {
       answer =
-          none_usable g.F.Field.ops g.F.Field.places c.args.sizes.now c.args.code-seed.now c.args.mixing-seeds.now c.first-seed-taken.result
-          c.first-seed-taken.ensures.taken c.if-taken-mixing-seeds.true;
+          none_usable g.F.Field.ops g.F.Field.places c.args.sizes.now c.args.code_seed.now c.args.mixing_seeds.now c.first_seed-taken.result
+          c.first_seed-taken.ensures.taken c.if-taken-mixing_seeds.true;
       gives = (refl, refl);
     }
 
-pub write-taken-requires : goal.write-taken-requires
-write-taken-requires g c =
+pub write_taken-requires : goal.write_taken-requires
+write_taken-requires g c =
     let s = c.args.sizes.now in
-    let code = c.args.code-seed.now in
-    let seeds = c.args.mixing-seeds.now in
+    let code = c.args.code_seed.now in
+    let seeds = c.args.mixing_seeds.now in
     let f = g.F.Field.ops in
     let pl = g.F.Field.places in
-    let is = c.first-seed-taken.ensures in
-    let es = c.support-of-support.ensures in
-    let ln : length c.support-of-support.result.now ≡ s.n = ap length es ∙ is.long in
-    let HP = mixed_is f pl s code seeds c.first-seed-taken.new.g c.support-of-support.result.now c.first-seed-taken.result is.g (es ∙ is.support) is.taken in
+    let is = c.first_seed-taken.ensures in
+    let es = c.support_of-support.ensures in
+    let ln : length c.support_of-support.result.now ≡ s.n = ap length es ∙ is.long in
+    let HP = mixed_is f pl s code seeds c.first_seed-taken.new.g c.support_of-support.result.now c.first_seed-taken.result is.g (es ∙ is.support) is.taken in
     record {
       sizes = c.requires.sizes;
       code = (omega arith, (ln, λ k l. rw es (is.off k (omega arith))));
@@ -44,28 +44,28 @@ pub returns : goal.returns
 returns g c =
     let s = c.args.sizes.now in
     let h = c.requires.sizes.0 in
-    let code = c.args.code-seed.now in
-    let seeds = c.args.mixing-seeds.now in
-    let decoy = c.args.decoy-seed.now in
+    let code = c.args.code_seed.now in
+    let seeds = c.args.mixing_seeds.now in
+    let decoy = c.args.decoy_seed.now in
     let f = g.F.Field.ops in
     let pl = g.F.Field.places in
-    let is = c.first-seed-taken.ensures in
-    let taken = c.first-seed-taken.result in
+    let is = c.first_seed-taken.ensures in
+    let taken = c.first_seed-taken.result in
     let lt : taken < count_of seeds = omega arith in
-    let es : c.support-of-support.result.now ≡ support_of_seed g.F.Field.bits s code = c.support-of-support.ensures ∙ is.support in
+    let es : c.support_of-support.result.now ≡ support_of_seed g.F.Field.bits s code = c.support_of-support.ensures ∙ is.support in
     let mixing = seed_of seeds (taken_of f pl s code seeds) in
     let HP : Matrix = mixed_of f pl s code mixing in
-    let public : c.write-taken.new.public-key ≡ public_key_of s (reduced_of s.rows HP) =
-    c.write-taken.ensures.public
-    ∙ ap (λ (B : Matrix). public_key_of s (reduced_of s.rows B)) (mixed_is f pl s code seeds c.first-seed-taken.new.g c.support-of-support.result.now taken is.g es is.taken) in
-    let secret : c.write-taken.new.secret-key ≡ secret_key_of f pl s code mixing decoy =
-    c.write-taken.ensures.secret ∙ secret_is f pl s code seeds c.first-seed-taken.new.g c.support-of-support.result.now taken is.g es is.taken decoy in
+    let public : c.write_taken.new.public_key ≡ public_key_of s (reduced_of s.rows HP) =
+    c.write_taken.ensures.public
+    ∙ ap (λ (B : Matrix). public_key_of s (reduced_of s.rows B)) (mixed_is f pl s code seeds c.first_seed-taken.new.g c.support_of-support.result.now taken is.g es is.taken) in
+    let secret : c.write_taken.new.secret_key ≡ secret_key_of f pl s code mixing decoy =
+    c.write_taken.ensures.secret ∙ secret_is f pl s code seeds c.first_seed-taken.new.g c.support_of-support.result.now taken is.g es is.taken decoy in
     let P : List ℕ → Type 0 = λ x. Echelon s.rows s.k HP (public_matrix s x) in
-    let form : P c.write-taken.new.public-key = subst P (sym public) (public_echelon s h HP (taken_usable f pl s code seeds (omega (arith, is.taken)))) in
+    let form : P c.write_taken.new.public_key = subst P (sym public) (public_echelon s h HP (taken_usable f pl s code seeds (omega (arith, is.taken)))) in
     record {
       answer = one_usable f pl s code seeds taken is.taken lt;
       gives =
           pair g.met.F.Field.laws pl g.met.F.Field.origin s code (code_fits g.F.Field.bits s h (sym c.requires.sizes.1)) h mixing decoy
           (seed_length seeds (taken_of f pl s code seeds) (omega (arith, is.taken))) c.requires.seeds.1
-          c.write-taken.new.public-key c.write-taken.new.secret-key public secret form;
+          c.write_taken.new.public_key c.write_taken.new.secret_key public secret form;
     }

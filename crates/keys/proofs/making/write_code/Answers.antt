@@ -5,13 +5,13 @@ use Rattle.keys.specs.Seeds.{support_of_seed, zeros_of, goppa_of}
 use Rattle.keys.proofs.Goppa.{code_fits, support_length, zeros_length, goppa_is, off}
 use Rattle.keys.proofs.making.write_code.Goals as goal
 
-pub goppa-polynomial-requires : goal.goppa-polynomial-requires
+pub goppa_polynomial-requires : goal.goppa_polynomial-requires
 unfolding zeros_of
-goppa-polynomial-requires g c =
+goppa_polynomial-requires g c =
     let s = c.args.sizes.now in
     let m = g.F.Field.bits in
     let le = code_fits m s c.requires.sizes.0 (sym c.requires.sizes.1) in
-    let ez : c.zeros-of.result.now ≡ zeros_of m s c.args.seed.now = c.zeros-of.ensures ∙ ap (zeros s.n s.t) c.code-of.ensures.after in
+    let ez : c.zeros_of.result.now ≡ zeros_of m s c.args.seed.now = c.zeros_of.ensures ∙ ap (zeros s.n s.t) c.code_of.ensures.after in
     omega (arith, ap length ez, zeros_length m s c.args.seed.now le)
 
 pub returns : goal.returns
@@ -23,11 +23,11 @@ returns g c =
     let pl = g.F.Field.places in
     let seed = c.args.seed.now in
     let le = code_fits m s c.requires.sizes.0 (sym c.requires.sizes.1) in
-    let es : support s.n c.code-of.new.places ≡ support_of_seed m s seed = ap (support s.n) c.code-of.ensures.after in
-    let ez : c.zeros-of.result.now ≡ zeros_of m s seed = c.zeros-of.ensures ∙ ap (zeros s.n s.t) c.code-of.ensures.after in
-    let eg : c.goppa-polynomial.new.g ≡ goppa_of f pl s seed =
-    goppa_is f pl s seed c.goppa-polynomial.new.g (omega arith) c.goppa-polynomial.ensures.written
-    (c.goppa-polynomial.ensures.product ∙ ap (λ (l : List ℕ). from_zeros f (map pl.at l)) ez) in
+    let es : support s.n c.code_of.new.places ≡ support_of_seed m s seed = ap (support s.n) c.code_of.ensures.after in
+    let ez : c.zeros_of.result.now ≡ zeros_of m s seed = c.zeros_of.ensures ∙ ap (zeros s.n s.t) c.code_of.ensures.after in
+    let eg : c.goppa_polynomial.new.g ≡ goppa_of f pl s seed =
+    goppa_is f pl s seed c.goppa_polynomial.new.g (omega arith) c.goppa_polynomial.ensures.written
+    (c.goppa_polynomial.ensures.product ∙ ap (λ (l : List ℕ). from_zeros f (map pl.at l)) ez) in
     let long = ap length es ∙ support_length m s seed le in
     record {
       support = es;

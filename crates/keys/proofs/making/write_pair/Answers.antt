@@ -5,8 +5,8 @@ use Rattle.keys.specs.Secret.{mixed_by}
 use Rattle.keys.proofs.Forms.{mixed_independent, mixed_public, mixed_secret}
 use Rattle.keys.proofs.making.write_pair.Goals as goal
 
-pub write-keys-requires : goal.write-keys-requires
-write-keys-requires g c =
+pub write_keys-requires : goal.write_keys-requires
+write_keys-requires g c =
     let s = c.args.sizes.now in
     let h = c.requires.sizes.0 in
     let HP : Matrix = mixed_by g.F.Field.ops g.F.Field.places s c.args.support.now c.args.g.now c.args.mixing.now in
@@ -15,16 +15,16 @@ write-keys-requires g c =
       code = (c.requires.code.1.0, c.requires.code.0);
       seeds = c.requires.seeds;
       keys = c.requires.keys;
-      front = mixed_independent s h (matrix s.vector c.write-hp.new.hp) HP c.write-hp.ensures c.requires.usable;
+      front = mixed_independent s h (matrix s.vector c.write_hp.new.hp) HP c.write_hp.ensures c.requires.usable;
     }
 
 pub returns : goal.returns
 returns g c =
     let s = c.args.sizes.now in
     let h = c.requires.sizes.0 in
-    let B = matrix s.vector c.write-hp.new.hp in
+    let B = matrix s.vector c.write_hp.new.hp in
     let HP : Matrix = mixed_by g.F.Field.ops g.F.Field.places s c.args.support.now c.args.g.now c.args.mixing.now in
     record {
-      public = c.write-keys.ensures.public ∙ mixed_public s h B HP c.write-hp.ensures;
-      secret = c.write-keys.ensures.secret ∙ mixed_secret s h B HP c.write-hp.ensures c.args.support.now c.args.g.now c.args.mixing.now c.args.decoy.now;
+      public = c.write_keys.ensures.public ∙ mixed_public s h B HP c.write_hp.ensures;
+      secret = c.write_keys.ensures.secret ∙ mixed_secret s h B HP c.write_hp.ensures c.args.support.now c.args.g.now c.args.mixing.now c.args.decoy.now;
     }

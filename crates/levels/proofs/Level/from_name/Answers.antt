@@ -3,8 +3,8 @@ use Rattle.std.specs.Str.{bytes_eq}
 use Rattle.std.proofs.lemmas.Slice.Eq.{bytes_eq-Decides}
 use Rattle.levels.proofs.Level.from_name.Goals as goal
 
-pub returns-in-default : goal.returns-in-default
-returns-in-default c =
+pub returns-in_default : goal.returns-in_default
+returns-in_default c =
     let a : bytes_eq c.args.name.now (codes "sample") ≡ false = search (rules, bytes_eq-Decides) in
     let b : bytes_eq c.args.name.now (codes "128") ≡ false = search (rules, bytes_eq-Decides) in
     let d : bytes_eq c.args.name.now (codes "192") ≡ false = search (rules, bytes_eq-Decides) in

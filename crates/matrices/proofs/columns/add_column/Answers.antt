@@ -9,11 +9,11 @@ use Rattle.matrices.proofs.columns.add_column.Goals as goal
 next : (s r n : ℕ) → r < n → s * r + s ≤ s * n
 next s r n l = omega (arith, mul-le s (r + 1) s n (omega arith) (omega arith), mul-add s r 1, mul-one s)
 
-pub overflow-mul-some : goal.overflow-mul-some
-overflow-mul-some c = record { fits = omega (arith, next c.args.some c.loop-r.r (length c.args.numbers.now) (omega arith)) }
+pub overflow_mul-some : goal.overflow_mul-some
+overflow_mul-some c = record { fits = omega (arith, next c.args.some c.loop-r.r (length c.args.numbers.now) (omega arith)) }
 
-pub add-number-requires : goal.add-number-requires
-add-number-requires c =
+pub add_number-requires : goal.add_number-requires
+add_number-requires c =
     let n = length c.args.numbers.now in
     let e = next c.args.some c.loop-r.r n (omega arith) in
     record {
@@ -43,8 +43,8 @@ loop-r-preserved c =
     let e : s * (r + 1) ≡ s * r + s = omega (arith, mul-add s r 1, mul-one s) in
     rw e
     (column_join 0 (s * r) (s * r + s) (8 * c.args.width) c.args.col (bits_of s c.args.numbers.now) (number_bit (get_or c.args.numbers.now r 0))
-    (matrix c.args.width c.args.m.now) (matrix c.args.width c.loop-r.m) (matrix c.args.width c.add-number.new.m) (omega arith) (omega arith)
-    (λ i l m. within s r i c.args.numbers.now l m) c.loop-r.invariant c.add-number.ensures)
+    (matrix c.args.width c.args.m.now) (matrix c.args.width c.loop-r.m) (matrix c.args.width c.add_number.new.m) (omega arith) (omega arith)
+    (λ i l m. within s r i c.args.numbers.now l m) c.loop-r.invariant c.add_number.ensures)
 
 pub returns : goal.returns
 returns c = let e : c.loop-r.r ≡ length c.args.numbers.now = omega arith in rw e at c.loop-r.invariant

@@ -6,8 +6,8 @@ use Rattle.matrices.proofs.Bytes.{row_before}
 use Rattle.matrices.proofs.Entries.{column_none, column_one, column_join}
 use Rattle.matrices.proofs.columns.add_number.Goals as goal
 
-pub add-entry-requires : goal.add-entry-requires
-add-entry-requires c = (
+pub add_entry-requires : goal.add_entry-requires
+add_entry-requires c = (
   omega (arith, row_before c.args.width (c.args.row + c.loop-i.i) (c.args.row + c.args.some) (omega arith)),
   c.requires.column,
 )
@@ -25,10 +25,10 @@ loop-i-preserved c =
     let e : c.args.row + (c.loop-i.i + 1) ≡ s + 1 = omega arith in
     rw e
     (column_join c.args.row s (s + 1) (8 * c.args.width) c.args.col (number_bit c.args.x) (λ _. b) (matrix c.args.width c.args.m.now)
-    (matrix c.args.width c.loop-i.m) (matrix c.args.width c.add-entry.new.m) (omega arith) (omega arith)
+    (matrix c.args.width c.loop-i.m) (matrix c.args.width c.add_entry.new.m) (omega arith) (omega arith)
     (λ i l m. let q : i - c.args.row ≡ c.loop-i.i = omega arith in rw q (ap (λ y. eqb y 1) (and_mask (c.args.x / 2 ^ c.loop-i.i) 1)))
     c.loop-i.invariant
-    (column_one s (8 * c.args.width) c.args.col b (matrix c.args.width c.loop-i.m) (matrix c.args.width c.add-entry.new.m) c.add-entry.ensures))
+    (column_one s (8 * c.args.width) c.args.col b (matrix c.args.width c.loop-i.m) (matrix c.args.width c.add_entry.new.m) c.add_entry.ensures))
 
 pub returns : goal.returns
 returns c = let e : c.loop-i.i ≡ c.args.some = omega arith in rw e at c.loop-i.invariant

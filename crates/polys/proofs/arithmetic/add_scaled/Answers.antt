@@ -9,6 +9,6 @@ returns g c =
     let pl = g.F.Field.places in
     let m = g.F.Field.bits in
     record {
-      is = part_write g.met.F.Field.laws pl c.args.into.now c.add-multiple.new.into (coefs pl c.args.p.now) c.args.c c.args.shift (omega arith) (omega arith) c.add-multiple.ensures.is;
-      placed = λ h. placed_part m c.args.into.now c.add-multiple.new.into c.args.shift (omega arith) (omega arith) h (c.add-multiple.ensures.placed (placed_rest m c.args.into.now c.args.shift h));
+      is = part_write g.met.F.Field.laws pl c.args.into.now c.add_multiple.new.into (coefs pl c.args.p.now) c.args.c c.args.shift (omega arith) (omega arith) c.add_multiple.ensures.is;
+      placed = λ h. placed_part m c.args.into.now c.add_multiple.new.into c.args.shift (omega arith) (omega arith) h (c.add_multiple.ensures.placed (placed_rest m c.args.into.now c.args.shift h));
     }

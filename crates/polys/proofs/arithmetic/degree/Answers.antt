@@ -5,7 +5,7 @@ use Rattle.polys.proofs.Steps.{zero_below}
 use Rattle.polys.proofs.arithmetic.degree.Goals as goal
 
 pub returns : goal.returns
-returns g c = at c.degree-from.result c.degree-from.ensures where
+returns g c = at c.degree_from.result c.degree_from.ensures where
   p : Series g.row.F.Denot
   p = coefs g.F.Field.places c.args.p.now
 

@@ -11,14 +11,14 @@ pub loop-i-preserved : goal.loop-i-preserved
 loop-i-preserved g c =
     let k = g.met.F.Field.laws in
     below_less k (c.loop-i.i - 1) (coefs g.F.Field.places c.args.p.now) (λ j h. c.loop-i.invariant j (omega arith))
-    (coefs_at k g.F.Field.places c.args.p.now (c.loop-i.i - 1) ∙ sym c.read.ensures ∙ c.is-zero.ensures.yes c.if-not-is-zero.false)
+    (coefs_at k g.F.Field.places c.args.p.now (c.loop-i.i - 1) ∙ sym c.read.ensures ∙ c.is_zero.ensures.yes c.if-not-is_zero.false)
 
-pub returns-then-not-is-zero : goal.returns-then-not-is-zero
-returns-then-not-is-zero g c = (
+pub returns-then-not-is_zero : goal.returns-then-not-is_zero
+returns-then-not-is_zero g c = (
   omega arith,
   omega arith,
   (
-    λ e. c.is-zero.ensures.no c.if-not-is-zero.true (c.read.ensures ∙ sym (coefs_at g.met.F.Field.laws g.F.Field.places c.args.p.now (c.loop-i.i - 1)) ∙ e),
+    λ e. c.is_zero.ensures.no c.if-not-is_zero.true (c.read.ensures ∙ sym (coefs_at g.met.F.Field.laws g.F.Field.places c.args.p.now (c.loop-i.i - 1)) ∙ e),
     λ j h. c.loop-i.invariant j (omega arith),
   ),
 )

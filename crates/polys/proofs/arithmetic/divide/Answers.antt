@@ -25,30 +25,30 @@ loop-n-preserved g c =
     let z = g.met.F.Field.origin in
     let K = c.in-Some.k in
     let n = c.loop-n.n - 1 in
-    let got = c.leading-inverse-e.ensures.lead in
+    let got = c.leading_inverse-e.ensures.lead in
     let inv = c.loop-n.invariant in
     let D = coefs pl c.args.d.now in
     let R = coefs pl c.loop-n.rem in
     let M = mono f c.product-c.result (n - K) in
     let wrote = write_new k pl z c.loop-n.quot (n - K) c.place.result c.product-c.result (omega arith) (inv.2 (n - K) (omega arith)) c.place.ensures in
     let front = coefs_take k pl z c.args.d.now (K + 1) (λ j h. got.under j (omega arith)) in
-    let put = c.add-scaled.ensures.is in
-    let added : coefs pl c.add-scaled.new.into ≡ (poly f).add R ((poly f).mul M D) = cc in
-    let by : c.product-c.result ≡ f.mul c.read.result c.leading-inverse-e.result = c.product-c.ensures in
-    let read : c.product-c.result ≡ f.mul (R n) c.leading-inverse-e.result = by ∙ ap (λ x. f.mul x c.leading-inverse-e.result) (c.read.ensures ∙ sym (coefs_at k pl c.loop-n.rem n)) in
-    let less = drop_top k pl z R D K n c.leading-inverse-e.result c.product-c.result got (λ j h. inv.1 j (omega arith)) (omega arith) read in (
+    let put = c.add_scaled.ensures.is in
+    let added : coefs pl c.add_scaled.new.into ≡ (poly f).add R ((poly f).mul M D) = cc in
+    let by : c.product-c.result ≡ f.mul c.read.result c.leading_inverse-e.result = c.product-c.ensures in
+    let read : c.product-c.result ≡ f.mul (R n) c.leading_inverse-e.result = by ∙ ap (λ x. f.mul x c.leading_inverse-e.result) (c.read.ensures ∙ sym (coefs_at k pl c.loop-n.rem n)) in
+    let less = drop_top k pl z R D K n c.leading_inverse-e.result c.product-c.result got (λ j h. inv.1 j (omega arith)) (omega arith) read in (
       divide_more k pl z (coefs pl c.args.rem.now) (coefs pl c.loop-n.quot) R D M _ _ inv.0 wrote added,
       subst (λ (p : Series g.row.F.Denot). Below f n p) (sym added) less,
       λ j h. let ne : j ≢ n - K = omega arith in get_or-set_other c.loop-n.quot (n - K) j c.place.result 0 ne ∙ inv.2 j (omega arith),
       placed_set g.F.Field.bits c.loop-n.quot (n - K) c.place.result (omega arith) inv.3 (number_below pl c.place.result c.product-c.result c.place.ensures),
-      λ h. c.add-scaled.ensures.placed (inv.4 h),
+      λ h. c.add_scaled.ensures.placed (inv.4 h),
     )
 
 pub returns : goal.returns
 returns g c =
     let inv = c.loop-n.invariant in (
       record {
-        degree = lead_degree g.met.F.Field.laws g.F.Field.places g.met.F.Field.origin c.in-Some.k c.leading-inverse-e.result (coefs g.F.Field.places c.args.d.now) c.leading-inverse-e.ensures.lead;
+        degree = lead_degree g.met.F.Field.laws g.F.Field.places g.met.F.Field.origin c.in-Some.k c.leading_inverse-e.result (coefs g.F.Field.places c.args.d.now) c.leading_inverse-e.ensures.lead;
         whole = inv.0;
         rest = λ j h. inv.1 j (omega arith);
       },

@@ -13,9 +13,9 @@ loop-i-init g c =
 pub loop-i-preserved : goal.loop-i-preserved
 loop-i-preserved g c =
     let f = g.F.Field in (
-      product_more g.met.F.Field.laws f.places g.met.F.Field.origin c.args.p.now (coefs f.places c.args.q.now) (coefs f.places c.loop-i.out) (coefs f.places c.add-scaled.new.into)
-          c.loop-i.i c.read.result c.read.ensures c.loop-i.invariant.0 c.add-scaled.ensures.is,
-      c.add-scaled.ensures.placed c.loop-i.invariant.1,
+      product_more g.met.F.Field.laws f.places g.met.F.Field.origin c.args.p.now (coefs f.places c.args.q.now) (coefs f.places c.loop-i.out) (coefs f.places c.add_scaled.new.into)
+          c.loop-i.i c.read.result c.read.ensures c.loop-i.invariant.0 c.add_scaled.ensures.is,
+      c.add_scaled.ensures.placed c.loop-i.invariant.1,
     )
 
 pub returns : goal.returns

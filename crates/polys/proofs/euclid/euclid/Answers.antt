@@ -32,7 +32,7 @@ loop-k-preserved g c =
     let same = subst (λ (x : Series g.row.F.Denot). Reduced f (c.loop-k.n + 1 - c.in-Some.k) (of c.loop-k.s) (of c.loop-k.r) (of c.loop-k.a) x (of c.reduce.new.s) (of c.reduce.new.a)) front c.reduce.ensures.same in (
       got.0,
       euclid_swap k c.args.top (of c.args.s.now) (of c.args.r.now) (of c.loop-k.r) (of c.reduce.new.s) (of c.loop-k.b) (of c.reduce.new.a) _ _ _ _ c.in-Some.k
-          (ap of c.swap-with-slice.ensures.after) (ap of c.swap-with-slice.ensures.other_After) (ap of c.swap-with-slice-in-Some.ensures.after) (ap of c.swap-with-slice-in-Some.ensures.other_After)
+          (ap of c.swap_with_slice.ensures.after) (ap of c.swap_with_slice.ensures.other_After) (ap of c.swap_with_slice-in-Some.ensures.after) (ap of c.swap_with_slice-in-Some.ensures.other_After)
           (euclid_more k c.args.top (of c.args.s.now) (of c.args.r.now) (of c.loop-k.s) (of c.loop-k.r) (of c.loop-k.a) (of c.loop-k.b) (of c.reduce.new.s) (of c.reduce.new.a) c.loop-k.n c.in-Some.k
           inv got.2 same c.reduce.ensures.rest),
     )
@@ -47,5 +47,5 @@ returns g c =
       rule = inv.1;
       points = at_points k pl g.met.F.Field.origin c.args.top c.loop-k.n c.args.s.now c.args.r.now c.loop-k.s c.loop-k.r c.loop-k.a c.loop-k.b inv.1;
       factor = factor k c.args.top (of c.args.s.now) (of c.args.r.now) (of c.loop-k.s) (of c.loop-k.r) (of c.loop-k.a) (of c.loop-k.b) c.loop-k.n c.requires.degree inv.1;
-      last = (inv.0, c.in-default.ensures);
+      last = (inv.0, c.in_default.ensures);
     }

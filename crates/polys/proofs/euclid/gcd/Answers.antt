@@ -13,7 +13,7 @@ returns g c =
     let n = c.euclid-n.result in
     let top = got.rule.degree in
     record {
-      is = gcd_made k c.args.top (of c.args.s.now) (of c.args.r.now) s (of x.r) (of x.a) (of x.b) (of c.make-monic.new.p) n (f.inv (s n))
-          got.rule got.last.1 (record { top = k.mul_inv (s n) top.0; under = top.1 }) c.make-monic.ensures.is;
-      placed = c.make-monic.ensures.placed;
+      is = gcd_made k c.args.top (of c.args.s.now) (of c.args.r.now) s (of x.r) (of x.a) (of x.b) (of c.make_monic.new.p) n (f.inv (s n))
+          got.rule got.last.1 (record { top = k.mul_inv (s n) top.0; under = top.1 }) c.make_monic.ensures.is;
+      placed = c.make_monic.ensures.placed;
     }

@@ -4,14 +4,14 @@ use Rattle.polys.proofs.Lists.{coefs_at}
 use Rattle.polys.proofs.Rule.{inverse_made, shared_made}
 use Rattle.polys.proofs.euclid.inverse.Goals as goal
 
-pub returns-in-default : goal.returns-in-default
-returns-in-default g c =
+pub returns-in_default : goal.returns-in_default
+returns-in_default g c =
     let k = g.met.F.Field.laws in
     let of = coefs g.F.Field.places in
     let got = c.euclid.ensures in
     let x = c.euclid.new in
     shared_made k c.args.top (of c.args.s.now) (of c.args.r.now) (of x.s) (of x.r) (of x.a) (of x.b) c.euclid.result got.rule got.last.0 got.last.1
-    (coefs_at k g.F.Field.places x.r 0 ∙ sym c.read.ensures ∙ c.in-default.ensures)
+    (coefs_at k g.F.Field.places x.r 0 ∙ sym c.read.ensures ∙ c.in_default.ensures)
 
 pub returns : goal.returns
 returns g c =

@@ -14,19 +14,19 @@ loop-j-preserved g c =
     let z = g.met.F.Field.origin in
     let K = c.args.k in
     let j = c.loop-j.j - 1 in
-    let got = c.leading-inverse-e.ensures.lead in
+    let got = c.leading_inverse-e.ensures.lead in
     let inv = c.loop-j.invariant in
     let R = coefs pl c.args.r.now in
     let S = coefs pl c.loop-j.s in
     let M = mono f c.product-c.result (j - K) in
     let front = coefs_take k pl z c.args.r.now (K + 1) (λ x h. got.under x (omega arith)) in
-    let put = c.add-scaled.ensures.is in
-    let added : coefs pl c.add-scaled.new.into ≡ (poly f).add S ((poly f).mul M R) = cc in
-    let by : c.product-c.result ≡ f.mul c.read.result c.leading-inverse-e.result = c.product-c.ensures in
-    let read : c.product-c.result ≡ f.mul (S j) c.leading-inverse-e.result = by ∙ ap (λ x. f.mul x c.leading-inverse-e.result) (c.read.ensures ∙ sym (coefs_at k pl c.loop-j.s j)) in
-    let less = drop_top k pl z S R K j c.leading-inverse-e.result c.product-c.result got (λ x h. inv.0 x (omega arith)) (omega arith) read in (
+    let put = c.add_scaled.ensures.is in
+    let added : coefs pl c.add_scaled.new.into ≡ (poly f).add S ((poly f).mul M R) = cc in
+    let by : c.product-c.result ≡ f.mul c.read.result c.leading_inverse-e.result = c.product-c.ensures in
+    let read : c.product-c.result ≡ f.mul (S j) c.leading_inverse-e.result = by ∙ ap (λ x. f.mul x c.leading_inverse-e.result) (c.read.ensures ∙ sym (coefs_at k pl c.loop-j.s j)) in
+    let less = drop_top k pl z S R K j c.leading_inverse-e.result c.product-c.result got (λ x h. inv.0 x (omega arith)) (omega arith) read in (
       subst (λ (p : Series g.row.F.Denot). Below f j p) (sym added) less,
-      reduced_more k (c.args.n + 1 - K) (coefs pl c.args.s.now) R (coefs pl c.args.a.now) (coefs pl c.args.b.now) S (coefs pl c.loop-j.a) _ _ c.product-c.result (j - K) (omega arith) inv.1 added c.add-scaled-in-loop-j.ensures.is,
+      reduced_more k (c.args.n + 1 - K) (coefs pl c.args.s.now) R (coefs pl c.args.a.now) (coefs pl c.args.b.now) S (coefs pl c.loop-j.a) _ _ c.product-c.result (j - K) (omega arith) inv.1 added c.add_scaled-in-loop-j.ensures.is,
     )
 
 pub loop-j-init : goal.loop-j-init

@@ -4,7 +4,7 @@ use Rattle.polys.proofs.Points.{value_none, value_more}
 use Rattle.polys.proofs.values.value_at.Goals as goal
 
 pub loop-i-init : goal.loop-i-init
-loop-i-init g c = c.zero_sum.ensures ∙ sym (value_none g.F.Field.ops g.F.Field.places c.args.p.now c.args.x)
+loop-i-init g c = c.zero-sum.ensures ∙ sym (value_none g.F.Field.ops g.F.Field.places c.args.p.now c.args.x)
 
 pub loop-i-preserved : goal.loop-i-preserved
 loop-i-preserved g c =

@@ -15,16 +15,16 @@ loop-i-init g c =
     )
 
 pub loop-i-preserved : goal.loop-i-preserved
-loop-i-preserved g c = (more, λ j h. c.horner-steps.ensures.rest j h ∙ c.loop-i.invariant.1 j h) where
+loop-i-preserved g c = (more, λ j h. c.horner_steps.ensures.rest j h ∙ c.loop-i.invariant.1 j h) where
   more : (j : ℕ) → j < length c.args.points.now
-      → get_or c.horner-steps.new.values j 0
+      → get_or c.horner_steps.new.values j 0
       ≡ g.F.Field.places.num (value g.F.Field.ops g.F.Field.places (drop (c.loop-i.i - 1) c.args.p.now) (g.F.Field.places.at (get_or c.args.points.now j 0)))
   more j h =
       let f = g.F.Field.ops in
       let pl = g.F.Field.places in
       let x = pl.at (get_or c.args.points.now j 0) in
       let old = c.loop-i.invariant.0 j h in
-      let new = c.horner-steps.ensures.step j h in
+      let new = c.horner_steps.ensures.step j h in
       let back = pl.at_num (value f pl (drop c.loop-i.i c.args.p.now) x) in
       let e = value_more f pl c.args.p.now x c.loop-i.i (omega arith) (omega arith) in
       cc

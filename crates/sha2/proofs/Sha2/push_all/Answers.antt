@@ -10,13 +10,13 @@ loop-i-preserved-then-bytes-i-ge128 c =
     let n : c.loop-i.i + 128 - c.loop-i.i ≡ 128 = omega arith in
     let l : length (take 128 (drop c.loop-i.i c.args.bytes.now)) ≡ 128 = simp (length-take, length-drop) (omega arith) in (
       goes_more (outcome_of c.args.self.now) (outcome_of c.loop-i.self)
-          (λ xs. take 32 (digest_from c.compress-block.new.h c.loop-i.self.block (c.loop-i.self.taken + 128) xs))
+          (λ xs. take 32 (digest_from c.compress_block.new.h c.loop-i.self.block (c.loop-i.self.taken + 128) xs))
           (take c.loop-i.i c.args.bytes.now) (take 128 (drop c.loop-i.i c.args.bytes.now)) (take (c.loop-i.i + 128) c.args.bytes.now)
           c.loop-i.invariant.0
           (ap {B = List ℕ → List ℕ} (λ (f : List ℕ → List ℕ) xs. take 32 (f xs))
-          (goes_whole c.loop-i.self.chaining c.compress-block.new.h c.loop-i.self.block (take 128 (drop c.loop-i.i c.args.bytes.now))
+          (goes_whole c.loop-i.self.chaining c.compress_block.new.h c.loop-i.self.block (take 128 (drop c.loop-i.i c.args.bytes.now))
           c.loop-i.self.taken l (omega arith)
-          (c.compress-block.ensures ∙ ap (λ (x : ℕ). compress c.loop-i.self.chaining (take x (drop c.loop-i.i c.args.bytes.now))) n)))
+          (c.compress_block.ensures ∙ ap (λ (x : ℕ). compress c.loop-i.self.chaining (take x (drop c.loop-i.i c.args.bytes.now))) n)))
           (take_add c.loop-i.i 128 c.args.bytes.now),
       omega (arith, c.loop-i.invariant.1),
       omega arith,

@@ -9,4 +9,4 @@ loop-t-init c = refl
 
 pub loop-t-preserved : goal.loop-t-preserved
 unfolding constants
-loop-t-preserved c = c.one-round.ensures ∙ rounds_more c.args.v.now c.args.w.now c.loop-t.v c.loop-t.t c.loop-t.invariant
+loop-t-preserved c = c.one_round.ensures ∙ rounds_more c.args.v.now c.args.w.now c.loop-t.v c.loop-t.t c.loop-t.invariant

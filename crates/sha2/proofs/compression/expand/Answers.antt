@@ -10,8 +10,8 @@ loop-t-init c = (omega arith, refl)
 
 pub loop-t-preserved : goal.loop-t-preserved
 loop-t-preserved c = (
-  length-set c.loop-t.w c.loop-t.t c.next-word.result ∙ c.loop-t.invariant.0,
-  ap (λ x. take (c.loop-t.t + 1) (set c.loop-t.w c.loop-t.t x)) c.next-word.ensures
+  length-set c.loop-t.w c.loop-t.t c.next_word.result ∙ c.loop-t.invariant.0,
+  ap (λ x. take (c.loop-t.t + 1) (set c.loop-t.w c.loop-t.t x)) c.next_word.ensures
       ∙ schedule_more (take 16 c.args.w.now) c.loop-t.w c.loop-t.t (omega arith) (omega arith) c.loop-t.invariant.1,
 )
 

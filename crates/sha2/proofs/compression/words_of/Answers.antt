@@ -9,8 +9,8 @@ pub loop-i-preserved : goal.loop-i-preserved
 loop-i-preserved c =
     let f : ℕ → ℕ = λ k. big_endian (take 8 (drop (8 * k) c.args.block.now)) in
     let P : List ℕ → Type 0 = λ xs. (k : ℕ) → k < c.loop-i.i + 1 → get_or xs k 0 ≡ f k in (
-      length-set c.loop-i.w c.loop-i.i c.word-of.result ∙ c.loop-i.invariant.0,
-      subst P (ap (set c.loop-i.w c.loop-i.i) (sym c.word-of.ensures))
+      length-set c.loop-i.w c.loop-i.i c.word_of.result ∙ c.loop-i.invariant.0,
+      subst P (ap (set c.loop-i.w c.loop-i.i) (sym c.word_of.ensures))
           (fill_by_more f c.loop-i.w c.loop-i.i 0 (omega arith) c.loop-i.invariant.1),
     )
 

@@ -7,7 +7,7 @@ use Rattle.soundness.proofs.reading.read_words.Goals as goal
 
 pub loop-i-preserved : goal.loop-i-preserved
 loop-i-preserved c =
-    rw c.word-at.ensures
+    rw c.word_at.ensures
     (fill_by_more (λ k. word c.args.key.now (c.args.from + k)) c.loop-i.out c.loop-i.i 0 (omega arith) c.loop-i.invariant)
 
 pub returns : goal.returns

@@ -7,8 +7,8 @@ use Rattle.soundness.proofs.values.count_zeros.Goals as goal
 pub loop-j-init : goal.loop-j-init
 loop-j-init c = sym (weight_start (λ j. eqb (get_or c.args.values.now j 0) 0))
 
-pub overflow-add-found : goal.overflow-add-found
-overflow-add-found c =
+pub overflow_add-found : goal.overflow_add-found
+overflow_add-found c =
     let v : Vector = λ k. eqb (get_or c.args.values.now k 0) 0 in
     omega (arith, c.loop-j.invariant, weight_next c.loop-j.j v, weight_le (c.loop-j.j + 1) v)
 

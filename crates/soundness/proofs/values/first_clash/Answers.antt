@@ -6,5 +6,5 @@ use Rattle.soundness.proofs.values.first_clash.Goals as goal
 pub returns : goal.returns
 returns g c =
     c.first_zero.ensures
-    ∙ (ap (λ n. first_place n (λ j. eqb (get_or c.values-at.new.values j 0) 0)) (omega arith)
-    ∙ first_same (length c.args.support.now) _ _ (λ j l. ap (λ x. eqb x 0) (c.values-at.ensures.each j l)))
+    ∙ (ap (λ n. first_place n (λ j. eqb (get_or c.values_at.new.values j 0) 0)) (omega arith)
+    ∙ first_same (length c.args.support.now) _ _ (λ j l. ap (λ x. eqb x 0) (c.values_at.ensures.each j l)))

@@ -10,6 +10,6 @@ pub hold-requires : goal.hold-requires
 hold-requires c =
     let w : WorkLengths = work_of c.args.bytes.now c.args.places.now c.args.positions.now in
     let n = length c.args.self.now.memory.now in
-    let t = taken-parts (level_of c.args.level.now) c.args.key.now n w c.in-ok-level.level (sym c.check-load.ensures ∙ c.in-ok-level.was) in
-    let f = fitted (level_of c.args.level.now) c.in-ok-level.level (length c.args.key.now) n w t.0 in
-    (f.key, (omega (arith, f.key, f.room), is_sound c.in-ok-level.level c.args.key.now t.1))
+    let t = taken-parts (level_of c.args.level.now) c.args.key.now n w c.in_ok-level.level (sym c.check_load.ensures ∙ c.in_ok-level.was) in
+    let f = fitted (level_of c.args.level.now) c.in_ok-level.level (length c.args.key.now) n w t.0 in
+    (f.key, (omega (arith, f.key, f.room), is_sound c.in_ok-level.level c.args.key.now t.1))

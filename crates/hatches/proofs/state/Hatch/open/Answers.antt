@@ -9,24 +9,24 @@ use Rattle.hatches.specs.Calls.{open_answer}
 use Rattle.hatches.proofs.Answers.{open-held, opens}
 use Rattle.hatches.proofs.state.Hatch.open.Goals as goal
 
-pub slice-bounds-open-at-end : goal.slice-bounds-open-at-end
-slice-bounds-open-at-end g c =
+pub slice-bounds-open_at-end : goal.slice-bounds-open_at-end
+slice-bounds-open_at-end g c =
     let st = c.args.self.now.state in
     let w : WorkLengths = work_of c.args.bytes.now c.args.places.now c.args.positions.now in
-    let e : open_answer st (length c.args.ticket.now) (length c.args.key.now) w c.capacity.result ≡ Ok c.in-ok-level.level = sym c.check-open.ensures ∙ c.in-ok-level.was in
-    let held = open-held st c.in-ok-level.level (length c.args.ticket.now) (length c.args.key.now) w c.capacity.result e in
+    let e : open_answer st (length c.args.ticket.now) (length c.args.key.now) w c.capacity.result ≡ Ok c.in_ok-level.level = sym c.check_open.ensures ∙ c.in_ok-level.was in
+    let held = open-held st c.in_ok-level.level (length c.args.ticket.now) (length c.args.key.now) w c.capacity.result e in
     let P : State → Type 0 = λ x. needed x ≤ length c.args.self.now.memory.now in
-    let room : (sizes_of c.in-ok-level.level).secret_key ≤ length c.args.self.now.memory.now = subst P held c.args.self.now.fits in
-    let n : c.sizes-n.result.secret_key ≡ (sizes_of c.in-ok-level.level).secret_key = ap (λ s. s.secret_key) c.sizes-n.ensures.table in
+    let room : (sizes_of c.in_ok-level.level).secret_key ≤ length c.args.self.now.memory.now = subst P held c.args.self.now.fits in
+    let n : c.sizes-n.result.secret_key ≡ (sizes_of c.in_ok-level.level).secret_key = ap (λ s. s.secret_key) c.sizes-n.ensures.table in
     omega arith
 
-pub open-at-requires : goal.open-at-requires
-open-at-requires g c =
+pub open_at-requires : goal.open_at-requires
+open_at-requires g c =
     let st = c.args.self.now.state in
-    let l = c.in-ok-level.level in
+    let l = c.in_ok-level.level in
     let m = c.args.self.now.memory.now in
     let w : WorkLengths = work_of c.args.bytes.now c.args.places.now c.args.positions.now in
-    let e : open_answer st (length c.args.ticket.now) (length c.args.key.now) w c.capacity.result ≡ Ok l = sym c.check-open.ensures ∙ c.in-ok-level.was in
+    let e : open_answer st (length c.args.ticket.now) (length c.args.key.now) w c.capacity.result ≡ Ok l = sym c.check_open.ensures ∙ c.in_ok-level.was in
     let held = open-held st l (length c.args.ticket.now) (length c.args.key.now) w c.capacity.result e in
     let o = opens st l (length c.args.ticket.now) (length c.args.key.now) w c.capacity.result e in
     let P : State → Type 0 = λ x. needed x ≤ length m in

@@ -3,7 +3,7 @@ use Rattle.sha2.proofs.stream.Sha2Hash.take.Goals as goal
 
 pub returns : goal.returns
 returns c = record {
-  took = (omega arith, omega (arith, c.push-all.ensures.count), c.push-all.ensures.goes);
+  took = (omega arith, omega (arith, c.push_all.ensures.count), c.push_all.ensures.goes);
   same = refl;
   kept = refl;
 }

@@ -9,4 +9,4 @@ returns-then-self-eq0 c = is_at c.args.self 0 (lit< tt) c.if-self-eq0.true
 
 pub returns : goal.returns
 returns c =
-    (λ e. c.if-self-eq0.false (ap (λ x. x.place) e ∙ within_is 8192 0 (lit< tt)), c.element.ensures ∙ ap at8192 c.inverse-of.ensures.is)
+    (λ e. c.if-self-eq0.false (ap (λ x. x.place) e ∙ within_is 8192 0 (lit< tt)), c.element.ensures ∙ ap at8192 c.inverse_of.ensures.is)
