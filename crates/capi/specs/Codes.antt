@@ -14,7 +14,7 @@ use Rattle.sealing.specs.Calls.{SealedAt}
 use Rattle.sealing.specs.Tickets.{Rule}
 use Rattle.keys.specs.Calls.{MadeAt}
 use Rattle.sha3.specs.Sponge.{sha3_rule}
-use Rattle.sha2.specs.Sha512.{sha2_rule}
+use Rattle.sha512.specs.Sha512.{sha2_rule}
 
 abbrev pub code_of_layer : Layer → ℕ
 code_of_layer layer.Call = 1

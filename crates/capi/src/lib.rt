@@ -17,7 +17,7 @@ use levels::Level;
 use levels::faults::{Fault, Layer, Part};
 use levels::guards::{Place, Position, PositionsGuard};
 use narrow::Narrow;
-use sha2::Sha2;
+use sha512::Sha2;
 use sha3::Sha3;
 
 fn layer_code(layer: Layer) -> u64

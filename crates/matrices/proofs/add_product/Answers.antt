@@ -6,8 +6,8 @@ use Rattle.matrices.proofs.Bytes.{row_before, row_part}
 use Rattle.matrices.proofs.Parts.{added_none, added_more}
 use Rattle.matrices.proofs.add_product.Goals as goal
 
-pub slice-bounds-parity-end : goal.slice-bounds-parity-end
-slice-bounds-parity-end c =
+pub slice_bounds-parity-end : goal.slice_bounds-parity-end
+slice_bounds-parity-end c =
     omega (arith, row_before (length c.args.v.now) c.loop-i.i (8 * length c.args.out.now) (omega arith))
 
 pub loop-i-init : goal.loop-i-init

@@ -13,7 +13,7 @@ loop-k-init c = (omega arith, refl)
 pub loop-k-preserved : goal.loop-k-preserved
 loop-k-preserved c = (
   xor_lt 8 c.loop-k.sum (bit_and (get_or c.args.row.now c.loop-k.k 0) (get_or c.args.v.now c.loop-k.k 0)) c.loop-k.invariant.0
-      (omega (arith, and_le_l (get_or c.args.row.now c.loop-k.k 0) (get_or c.args.v.now c.loop-k.k 0), (c.type-inv.row c.loop-k.k).fits)),
+      (omega (arith, and_le_l (get_or c.args.row.now c.loop-k.k 0) (get_or c.args.v.now c.loop-k.k 0), (c.type_inv.row c.loop-k.k).fits)),
   parity_more c.args.row.now c.args.v.now c.loop-k.k c.loop-k.sum c.loop-k.invariant.1,
 )
 

@@ -12,7 +12,7 @@ returns c =
     let rest = take (length v - f) (drop f v) in
     let zero : f - 0 ≡ f = omega arith in
     let front : c.copy_from_slice.new.self ≡ take f v = c.copy_from_slice.ensures.after ∙ ap (λ n. take n v) zero in
-    packed_is f _ c.add_product.new.out (omega arith) (λ k. (c.type-inv.out k).fits)
+    packed_is f _ c.add_product.new.out (omega arith) (λ k. (c.type_inv.out k).fits)
     (two_parts f c.args.m.now v c.add_product.new.out (omega arith)
     (λ i l. c.add_product.ensures i (omega arith)
     ∙ ap (λ (x : List ℕ). vector x i ⊕ dot (8 * length rest) (matrix (length rest) c.args.m.now i) (vector rest)) front))

@@ -29,7 +29,7 @@ returns-else-not-sealed g c =
           sealed_chosen (perfect g) g.F.Field.places g.met.F.Field.origin c.args.sizes.now c.requires.sizes.0 c.args.key.now c.requires.sound g.met.F.Field.sums
           c.requires.sizes.1.0 (g.H.Hash.rule c.args.hash.now) c.args.ticket.now c.requires.sizes.1.1.1 c.decode_body-found.result c.has_head-same.result
           (vector c.decode_body-found.new.d) c.unpermute.new.d c.decode_body-found.ensures c.unpermute.ensures c.has_head-same.ensures.which
-          c.if-not-sealed.false (λ k. (c.type-inv.ticket k).fits);
+          c.if-not-sealed.false (λ k. (c.type_inv.ticket k).fits);
       fresh = c.has_head-same.ensures.fresh;
       ruled = c.has_head-same.ensures.ruled;
       same = c.has_head-same.ensures.same;

@@ -10,7 +10,7 @@ use Rattle.shuffles.proofs.mark.Goals as goal
 pub loop-k-init : goal.loop-k-init
 loop-k-init c =
     let e : c.fill.new.self ≡ replicate (length c.args.out.now) 0 = search rules in
-    (filled_none (length c.args.order.now) (length c.args.out.now) _ _ c.fill.new.self e, λ k. (c.type-inv.out k).fits)
+    (filled_none (length c.args.order.now) (length c.args.out.now) _ _ c.fill.new.self e, λ k. (c.type_inv.out k).fits)
 
 pub loop-k-preserved : goal.loop-k-preserved
 loop-k-preserved c =
@@ -19,7 +19,7 @@ loop-k-preserved c =
       filled_more (length l) (place_of l) (λ _. true) k (get_or l k 0) true c.loop-k.out c.add_bit.new.v
           (place_of_lem (length l) l c.requires.permutes k (omega arith))
           (λ i m e. sym (at_place (length l) l c.requires.permutes i m) ∙ ap (λ p. get_or l p 0) e) refl c.add_bit.ensures c.loop-k.invariant.0,
-      λ p. (c.type-inv.out p).fits,
+      λ p. (c.type_inv.out p).fits,
     )
 
 pub returns : goal.returns

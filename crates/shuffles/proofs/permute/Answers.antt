@@ -7,7 +7,7 @@ use Rattle.shuffles.proofs.permute.Goals as goal
 pub loop-j-init : goal.loop-j-init
 loop-j-init c =
     let e : c.fill.new.self ≡ replicate (length c.args.out.now) 0 = search rules in
-    (filled_none (length c.args.order.now) (length c.args.out.now) _ _ c.fill.new.self e, λ k. (c.type-inv.out k).fits)
+    (filled_none (length c.args.order.now) (length c.args.out.now) _ _ c.fill.new.self e, λ k. (c.type_inv.out k).fits)
 
 pub loop-j-preserved : goal.loop-j-preserved
 loop-j-preserved c =
@@ -17,7 +17,7 @@ loop-j-preserved c =
       filled_more (length l) (place_of l) (perm l (vector c.args.v.now)) j (get_or l j 0) c.bit.result c.loop-j.out c.add_bit.new.v q
           (λ i m e. sym (at_place (length l) l c.requires.permutes i m) ∙ ap (λ k. get_or l k 0) e)
           (c.bit.ensures ∙ ap (vector c.args.v.now) (sym q)) c.add_bit.ensures c.loop-j.invariant.0,
-      λ k. (c.type-inv.out k).fits,
+      λ k. (c.type_inv.out k).fits,
     )
 
 pub returns : goal.returns

@@ -7,14 +7,14 @@ use Rattle.shuffles.proofs.permute_back.Goals as goal
 pub loop-j-init : goal.loop-j-init
 loop-j-init c =
     let e : c.fill.new.self ≡ replicate (length c.args.out.now) 0 = search rules in
-    (filled_none (length c.args.order.now) (length c.args.out.now) _ _ c.fill.new.self e, λ k. (c.type-inv.out k).fits)
+    (filled_none (length c.args.order.now) (length c.args.out.now) _ _ c.fill.new.self e, λ k. (c.type_inv.out k).fits)
 
 pub loop-j-preserved : goal.loop-j-preserved
 loop-j-preserved c =
     let l = c.args.order.now in (
       filled_more (length l) (λ i. i) (perm_inv l (vector c.args.v.now)) c.loop-j.j c.loop-j.j c.bit.result c.loop-j.out c.add_bit.new.v refl
           (λ i m e. e) c.bit.ensures c.add_bit.ensures c.loop-j.invariant.0,
-      λ k. (c.type-inv.out k).fits,
+      λ k. (c.type_inv.out k).fits,
     )
 
 pub returns : goal.returns

@@ -1,8 +1,8 @@
 use Rattle.std.proofs.Common.{mul-le-mul_left, arith}
 use Rattle.soundness.proofs.check_key.Goals as goal
 
-pub slice-bounds-check_parts-end : goal.slice-bounds-check_parts-end
-slice-bounds-check_parts-end g c =
+pub slice_bounds-check_parts-end : goal.slice_bounds-check_parts-end
+slice_bounds-check_parts-end g c =
     let s = c.args.sizes.now in
     let h = c.requires.sizes.0 in
     omega (arith, h.mixed, mul-le-mul_left s.rows h.shorter)

@@ -12,5 +12,5 @@ returns c =
     let hp = c.args.hp.now in
     let out = c.echelon.new.out in
     matrix_bytes_is s.rows (s.vector - s.body) (reduced_of s.rows (matrix s.vector hp)) out (omega (arith, h.matrix))
-    (λ k. (c.type-inv.out k).fits)
+    (λ k. (c.type_inv.out k).fits)
     (written_form s h c.echelon.result hp out c.echelon.ensures.reduced c.echelon.ensures.decided c.requires.front)

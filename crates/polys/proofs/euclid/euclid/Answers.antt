@@ -32,7 +32,7 @@ loop-k-preserved g c =
     let same = subst (λ (x : Series g.row.F.Denot). Reduced f (c.loop-k.n + 1 - c.in-Some.k) (of c.loop-k.s) (of c.loop-k.r) (of c.loop-k.a) x (of c.reduce.new.s) (of c.reduce.new.a)) front c.reduce.ensures.same in (
       got.0,
       euclid_swap k c.args.top (of c.args.s.now) (of c.args.r.now) (of c.loop-k.r) (of c.reduce.new.s) (of c.loop-k.b) (of c.reduce.new.a) _ _ _ _ c.in-Some.k
-          (ap of c.swap_with_slice.ensures.after) (ap of c.swap_with_slice.ensures.other_After) (ap of c.swap_with_slice-in-Some.ensures.after) (ap of c.swap_with_slice-in-Some.ensures.other_After)
+          (ap of c.swap_with_slice.ensures.after) (ap of c.swap_with_slice.ensures.other_after) (ap of c.swap_with_slice-in-Some.ensures.after) (ap of c.swap_with_slice-in-Some.ensures.other_after)
           (euclid_more k c.args.top (of c.args.s.now) (of c.args.r.now) (of c.loop-k.s) (of c.loop-k.r) (of c.loop-k.a) (of c.loop-k.b) (of c.reduce.new.s) (of c.reduce.new.a) c.loop-k.n c.in-Some.k
           inv got.2 same c.reduce.ensures.rest),
     )

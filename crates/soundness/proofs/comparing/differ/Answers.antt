@@ -11,7 +11,7 @@ loop-k-init c = sym (ap (λ n. not (eqb n 0)) (weight_start (λ j. vector c.args
 pub loop-k-preserved : goal.loop-k-preserved
 loop-k-preserved c =
     ap (λ h. h || not (eqb (get_or c.args.a.now c.loop-k.k 0) (get_or c.args.b.now c.loop-k.k 0))) c.loop-k.invariant
-    ∙ differ_more c.args.a.now c.args.b.now c.loop-k.k (c.type-inv.a c.loop-k.k).fits (c.type-inv.b c.loop-k.k).fits
+    ∙ differ_more c.args.a.now c.args.b.now c.loop-k.k (c.type_inv.a c.loop-k.k).fits (c.type_inv.b c.loop-k.k).fits
 
 pub returns : goal.returns
 returns c =

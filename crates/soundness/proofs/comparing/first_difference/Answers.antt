@@ -4,11 +4,11 @@ use Rattle.matrices.proofs.Bytes.{row_before}
 use Rattle.soundness.proofs.Rowwise.{row_differs}
 use Rattle.soundness.proofs.comparing.first_difference.Goals as goal
 
-pub slice-bounds-differ-end : goal.slice-bounds-differ-end
-slice-bounds-differ-end c = omega (arith, row_before c.args.width c.loop-i.i c.args.rows (omega arith))
+pub slice_bounds-differ-end : goal.slice_bounds-differ-end
+slice_bounds-differ-end c = omega (arith, row_before c.args.width c.loop-i.i c.args.rows (omega arith))
 
-pub slice-bounds-differ-end-in-loop-i : goal.slice-bounds-differ-end-in-loop-i
-slice-bounds-differ-end-in-loop-i c = omega (arith, row_before c.args.width c.loop-i.i c.args.rows (omega arith))
+pub slice_bounds-differ-end-in-loop-i : goal.slice_bounds-differ-end-in-loop-i
+slice_bounds-differ-end-in-loop-i c = omega (arith, row_before c.args.width c.loop-i.i c.args.rows (omega arith))
 
 pub returns-then-differ : goal.returns-then-differ
 returns-then-differ c =

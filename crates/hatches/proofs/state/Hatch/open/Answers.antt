@@ -9,8 +9,8 @@ use Rattle.hatches.specs.Calls.{open_answer}
 use Rattle.hatches.proofs.Answers.{open-held, opens}
 use Rattle.hatches.proofs.state.Hatch.open.Goals as goal
 
-pub slice-bounds-open_at-end : goal.slice-bounds-open_at-end
-slice-bounds-open_at-end g c =
+pub slice_bounds-open_at-end : goal.slice_bounds-open_at-end
+slice_bounds-open_at-end g c =
     let st = c.args.self.now.state in
     let w : WorkLengths = work_of c.args.bytes.now c.args.places.now c.args.positions.now in
     let e : open_answer st (length c.args.ticket.now) (length c.args.key.now) w c.capacity.result ≡ Ok c.in_ok-level.level = sym c.check_open.ensures ∙ c.in_ok-level.was in

@@ -1,6 +1,0 @@
-use Rattle.std.proofs.Common.{◌≡◌}
-use Rattle.sha2.specs.Sha512.{rounds}
-use Rattle.sha2.proofs.compression.all_rounds.Given as goal
-
-abbrev pub invariant-loop-t : goal.invariant-loop-t
-invariant-loop-t l = l.v ≡ rounds l.initial.v l.w l.t

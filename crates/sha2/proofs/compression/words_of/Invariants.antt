@@ -1,6 +1,0 @@
-use Rattle.std.proofs.Common.{◌≡◌, ℕ, ◌*◌, ◌<◌, length, get_or, take, drop}
-use Rattle.sha2.specs.Sha512.{big_endian}
-use Rattle.sha2.proofs.compression.words_of.Given as goal
-
-abbrev pub invariant-loop-i : goal.invariant-loop-i
-invariant-loop-i l = (length l.w ≡ 80) × ((k : ℕ) → k < l.i → get_or l.w k 0 ≡ big_endian (take 8 (drop (8 * k) l.block)))
