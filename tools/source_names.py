@@ -7,7 +7,7 @@ usage: python3 tools/source_names.py        at the top of the repository, after 
 import os
 import re
 
-KEPT = {"in_default", "in_ok", "in_err", "overflow_add", "overflow_sub", "overflow_mul", "type_inv", "slice_bounds", "bounds_check", "div_zero", "shift_bounds", "other_after", "other_len"}
+KEPT = {"in_default", "in_ok", "in_err", "overflow_add", "overflow_sub", "overflow_mul", "type_inv", "slice_bounds", "bounds_check", "div_zero", "shift_bounds", "other_after", "other_len", "from_residual"}
 
 
 def files(kinds):

@@ -30,7 +30,7 @@ returns-in_err-check_code g c =
     let key = c.args.key.now in
     let f = g.F.Field.ops in
     let pl = g.F.Field.places in
-    let p = err_from_is_err_and c.from-residual.result c.from-residual.ensures.1 in
+    let p = err_from_is_err_and c.from_residual.result c.from_residual.ensures.1 in
     rw (p.1, p.2)
     (rows_stop (code_rows f pl s key) (matrix_rows f pl s key) c.in_err-check_code.field-0.0 (sym c.check_code.ensures.answer ∙ c.in_err-check_code.was))
 

@@ -9,7 +9,7 @@ use Rattle.hatches.proofs.checks.check_load.Goals as goal
 
 pub returns-in_err-level : goal.returns-in_err-level
 returns-in_err-level c =
-    let p = err_from_is_err_and c.from-residual.result c.from-residual.ensures.1 in
+    let p = err_from_is_err_and c.from_residual.result c.from_residual.ensures.1 in
     let w : WorkLengths = work_of c.args.bytes.now c.args.places.now c.args.positions.now in
     rw (p.1, p.2) (sym (load-short (level_of c.args.level.now) c.args.key.now c.args.room w _ (sym c.check_fit.ensures ∙ c.in_err-level.was)))
 
@@ -21,7 +21,7 @@ check_sound-requires c =
 
 pub returns-in_err-check_sound : goal.returns-in_err-check_sound
 returns-in_err-check_sound c =
-    let p = err_from_is_err_and c.from-residual-in_err-check_sound.result c.from-residual-in_err-check_sound.ensures.1 in
+    let p = err_from_is_err_and c.from_residual-in_err-check_sound.result c.from_residual-in_err-check_sound.ensures.1 in
     let w : WorkLengths = work_of c.args.bytes.now c.args.places.now c.args.positions.now in
     rw (p.1, p.2) (sym (load-unsound (level_of c.args.level.now) c.args.key.now c.args.room w c.in_ok-level.level (sym c.check_fit.ensures ∙ c.in_ok-level.was) _
     (sym c.check_sound.ensures ∙ c.in_err-check_sound.was)))
