@@ -19,7 +19,7 @@ returns g c =
     let q = c.column.new.out in
     let en : length c.args.col.now ≡ t = c.requires.fits.1.0 in
     let here : Column f pl (length c.args.col.now) gs c.read.result q =
-    sure c.column.result _ _ c.column.ensures (λ z. c.requires.off (ap (value f pl gs) (sym c.read.ensures) ∙ z)) in
+    sure c.column.result _ _ c.column.ensures (λ z. c.requires.off (ap (value f pl gs) (sym c.read.ensures) ∙ z.0)) in
     let col : Column f pl t gs (pl.at c.args.x) q = rw (c.read.ensures, en) at here in
     record {
       sum = λ r l.
