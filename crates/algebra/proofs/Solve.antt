@@ -1,5 +1,5 @@
 -- Identities of a commutative ring in which x + x is zero, decided: both sides are multiplied out and sorted by antt.
-use Rattle.std.proofs.Common.{◌≡◌, ℕ, zero, Bool, true, false, T, eqb, ltb, leb, List, [], ◌∷◌, get_or, sym, refl, ap, ◌∙◌, ap₂, eqb→eq}
+use Rattle.std.proofs.Common.{◌≡◌, ℕ, Bool, true, false, T, eqb, ltb, leb, List, [], ◌∷◌, get_or, sym, refl, ap, ◌∙◌, ap₂, eqb→eq}
 use Rattle.algebra.specs.Ring.{Ring, RingLaws}
 use Rattle.algebra.proofs.Rings.{zero_add, mul_zero, zero_mul, add_mul}
 

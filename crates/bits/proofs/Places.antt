@@ -1,5 +1,5 @@
 -- Bits of bytes.
-use Rattle.std.proofs.Common.{◌≡◌, ℕ, ◌+◌, ◌-◌, ◌*◌, ◌/◌, ◌%◌, ◌^◌, ◌<◌, ◌≤◌, Bool, true, false, ◌&&◌, T, eqb, ◌⊎◌, List, length, get_or, drop, set, replicate, sym, refl, ap, ◌∙◌, inl, inr, arith}
+use Rattle.std.proofs.Common.{◌≡◌, ℕ, ◌+◌, ◌*◌, ◌/◌, ◌%◌, ◌^◌, ◌<◌, Bool, true, false, ◌&&◌, T, eqb, ◌⊎◌, List, length, get_or, drop, set, replicate, sym, ap, ◌∙◌, inl, inr, arith}
 use mathlib.Core.Bool.{beq}
 use native.Mathlib.Nat.{zero-div}
 use mir.Val.{bool_byte}
@@ -7,7 +7,7 @@ use lib.Bits.{bit_xor, bit_and, xor_shr, xor_mod, and_shr, and_mod}
 use Rattle.std.proofs.lemmas.Nat.{mod_below}
 use Rattle.std.proofs.lemmas.List.{get_or-set_same, get_or-set_other, get_or-drop, get_or-replicate, get_or_past, length-replicate}
 use Rattle.std.proofs.lemmas.Bool.{cases_lt, cases_eq, eq-eqb, ne_eqb}
-use Rattle.bits.specs.Vectors.{◌⊕◌, Vector}
+use Rattle.bits.specs.Vectors.{◌⊕◌}
 use Rattle.bits.specs.Packed.{power_of, bit_of, vector, BitAdded}
 use Rattle.bits.proofs.Tried.{every, tried, beq_same}
 use Rattle.bits.proofs.Sums.{xor_zero, and_no, and_yes}

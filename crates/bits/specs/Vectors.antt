@@ -1,5 +1,5 @@
 -- Vectors over the field of two elements are functions from places to bits, and a matrix gives its rows.
-use Rattle.std.specs.Prelude.{◌≡◌, ℕ, zero, suc, ◌+◌, ◌-◌, Bool, true, false, cond, not, ◌&&◌, ◌==◌, nat_lt}
+use Rattle.std.specs.Prelude.{ℕ, zero, suc, ◌+◌, ◌-◌, Bool, true, false, cond, not, ◌&&◌, ◌==◌, nat_lt}
 
 infixl 32 ◌⊕◌
 -- the sum of two bits

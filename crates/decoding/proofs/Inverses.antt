@@ -1,5 +1,5 @@
 -- Euclid's rule up to a constant gives the inverse modulo a polynomial with single zeros.
-use Rattle.std.proofs.Common.{◌≡◌, ℕ, suc, ◌+◌, ◌-◌, ◌≤◌, List, sym, ap, ◌∙◌, ap₂, arith}
+use Rattle.std.proofs.Common.{◌≡◌, ℕ, suc, ◌-◌, ◌≤◌, List, sym, ap, ◌∙◌, arith}
 use Rattle.algebra.specs.Field.{Ops, Laws, Places}
 use Rattle.algebra.specs.Series.{Series, Below}
 use Rattle.polys.specs.Coefs.{poly, coefs, mono}

@@ -1,5 +1,5 @@
 -- A polynomial even² + X·odd² whose zeros are single ones: odd is zero at none of them.
-use Rattle.std.proofs.Common.{◌≡◌, ℕ, zero, suc, ◌+◌, ◌-◌, ◌/◌, ◌<◌, ◌≤◌, List, [], ◌∷◌, length, sym, refl, ap, ◌∙◌, ap₂, arith}
+use Rattle.std.proofs.Common.{◌≡◌, ℕ, suc, ◌-◌, ◌/◌, ◌≤◌, List, [], ◌∷◌, length, sym, refl, ap, ◌∙◌, ap₂, arith}
 use Rattle.algebra.specs.Field.{Ops, Laws}
 use Rattle.algebra.specs.Poly.{eval}
 use Rattle.algebra.proofs.Rings.{ring_laws, zero_add, mul_zero}
@@ -8,9 +8,9 @@ use Rattle.patterson.specs.Points.{In}
 use Rattle.patterson.specs.Polys.{Poly, Vanishes, Splits}
 use Rattle.patterson.specs.Columns.{quotient_at}
 use Rattle.patterson.specs.Locator.{from_parts}
-use Rattle.patterson.proofs.Elements.{ring, by_one, by_two, zero_sum, mul_nonzero, square_zero}
+use Rattle.patterson.proofs.Elements.{ring, by_two, zero_sum, mul_nonzero, square_zero}
 use Rattle.patterson.proofs.ZeroCount.{factor, length_quotient}
-use Rattle.patterson.proofs.Polys.{poly_same, poly_wider, poly_add, poly_shift, poly_times, vanishes}
+use Rattle.patterson.proofs.Polys.{poly_wider, poly_add, poly_shift, poly_times, vanishes}
 
 -- φ is (X + α)·ψ
 pub record Factor {A : Type 0} (f : Ops A) (n : ℕ) (α : A) (φ : A → A) : Type 0 where

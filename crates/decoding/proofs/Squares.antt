@@ -1,15 +1,15 @@
 -- A polynomial from its two parts, even² + X·odd², by its coefficients and by its values.
-use Rattle.std.proofs.Common.{◌≡◌, ℕ, zero, suc, ◌+◌, ◌*◌, ◌≤◌, List, [], ◌∷◌, map, length, sym, refl, ap, ◌∙◌, ap₂, arith}
+use Rattle.std.proofs.Common.{◌≡◌, ℕ, zero, suc, ◌+◌, ◌*◌, ◌≤◌, List, [], ◌∷◌, map, sym, refl, ap, ◌∙◌, ap₂, arith}
 use Rattle.algebra.specs.Field.{Ops, Laws, Places}
 use Rattle.algebra.specs.Ring.{ring_of}
 use Rattle.algebra.specs.Poly.{eval}
 use Rattle.algebra.specs.Series.{Series, tail, ser, Below}
 use Rattle.algebra.proofs.Rings.{ring_laws}
 use Rattle.algebra.proofs.Eval.{eval_same}
-use Rattle.algebra.proofs.Solve.{v, o, i, ◌⊕◌, ◌⊗◌, solve}
+use Rattle.algebra.proofs.Solve.{v, o, ◌⊕◌, ◌⊗◌, solve}
 use Rattle.polys.specs.Coefs.{coefs}
 use Rattle.polys.specs.Values.{value}
-use Rattle.polys.proofs.Lists.{coefs_map, below_list}
+use Rattle.polys.proofs.Lists.{coefs_map}
 use Rattle.polys.proofs.Bridge.{front, front_is}
 use Rattle.patterson.specs.Locator.{from_parts}
 use Rattle.patterson.proofs.Elements.{square_zero}

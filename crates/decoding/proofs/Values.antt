@@ -1,5 +1,5 @@
 -- The values of polynomials in lists, from their coefficients.
-use Rattle.std.proofs.Common.{◌≡◌, ℕ, zero, suc, ◌+◌, ◌-◌, ◌≤◌, List, [], ◌∷◌, map, length, take, sym, refl, ap, ◌∙◌, subst, ap₂, arith}
+use Rattle.std.proofs.Common.{◌≡◌, ℕ, zero, suc, ◌+◌, ◌-◌, ◌≤◌, List, [], ◌∷◌, map, length, sym, refl, ap, ◌∙◌, ap₂, arith}
 use mathlib.Core.Path.{fun_ext}
 use Rattle.algebra.specs.Field.{Ops, Laws, Places}
 use Rattle.algebra.specs.Ring.{ring_of}
@@ -12,7 +12,7 @@ use Rattle.algebra.proofs.Solve.{v, o, i, ◌⊕◌, ◌⊗◌, solve}
 use Rattle.polys.specs.Coefs.{poly, coefs, mono, Division}
 use Rattle.polys.specs.Values.{value}
 use Rattle.polys.proofs.Terms.{poly_laws, at_add, at_zero, below_less}
-use Rattle.polys.proofs.Lists.{coefs_map, coefs_at, coefs_take, below_list}
+use Rattle.polys.proofs.Lists.{coefs_map, below_list}
 use Rattle.polys.proofs.Bridge.{eval_times, eval_division}
 use Rattle.polys.proofs.One.{top_mul, no_divisors}
 use Rattle.patterson.specs.Polys.{Poly}

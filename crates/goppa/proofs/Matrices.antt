@@ -1,11 +1,11 @@
 -- Columns as bits.
-use Rattle.std.proofs.Common.{◌≡◌, ℕ, ◌+◌, ◌-◌, ◌*◌, ◌/◌, ◌%◌, ◌<◌, ◌≤◌, Bool, true, false, ◌&&◌, eqb, ltb, leb, List, get_or, replicate, sym, refl, ap, ◌∙◌, inl, inr, mul_comm, arith}
+use Rattle.std.proofs.Common.{◌≡◌, ℕ, ◌+◌, ◌-◌, ◌*◌, ◌/◌, ◌%◌, ◌<◌, ◌≤◌, Bool, true, false, ◌&&◌, ltb, List, get_or, replicate, sym, refl, ap, ◌∙◌, inl, inr, mul_comm, arith}
 use Rattle.std.proofs.lemmas.Nat.{div_below}
 use Rattle.std.proofs.lemmas.List.{get_or-replicate, get_or_past, length-replicate}
 use Rattle.std.proofs.lemmas.Bool.{cases_lt, cases_eq, eq-eqb, ne_eqb, lt-ltb, le-ltb, le-leb}
 use Rattle.algebra.specs.Field.{Ops, Places}
 use Rattle.polys.specs.Coefs.{coefs}
-use Rattle.bits.specs.Vectors.{◌⊕◌, Vector, Matrix}
+use Rattle.bits.specs.Vectors.{Vector, Matrix}
 use Rattle.bits.specs.Packed.{matrix}
 use Rattle.bits.proofs.Sums.{xor_zero}
 use Rattle.bits.proofs.Places.{no_bit}

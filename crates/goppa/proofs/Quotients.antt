@@ -2,13 +2,13 @@
 use Rattle.std.proofs.Common.{◌≡◌, ℕ, zero, suc, ◌+◌, ◌-◌, ◌<◌, ◌≤◌, List, [], ◌∷◌, map, length, get_or, drop, sym, refl, ap, ◌∙◌, ap₂, add-one, arith, length-drop, drop_of_length-le, get_or-drop, drop-cons}
 use mathlib.Core.Path.{fun_ext}
 use native.Mathlib.Decide.{dec_lt}
-use Rattle.std.proofs.lemmas.List.{get_or_past, length-map}
+use Rattle.std.proofs.lemmas.List.{length-map}
 use Rattle.algebra.specs.Field.{Ops, Laws, Places}
 use Rattle.algebra.specs.Ring.{ring_of}
 use Rattle.algebra.specs.Poly.{eval}
-use Rattle.algebra.specs.Series.{Series, tail, ser, Below, Degree}
+use Rattle.algebra.specs.Series.{Series, tail, ser}
 use Rattle.algebra.proofs.Rings.{ring_laws, zero_add, mul_zero}
-use Rattle.algebra.proofs.Solve.{Ex, v, o, i, ◌⊕◌, ◌⊗◌, solve}
+use Rattle.algebra.proofs.Solve.{v, o, ◌⊕◌, ◌⊗◌, solve}
 use Rattle.polys.specs.Coefs.{poly, coefs, Placed, mono}
 use Rattle.polys.specs.Euclid.{Inverse}
 use Rattle.polys.specs.Values.{value}

@@ -8,7 +8,7 @@ use Rattle.algebra.specs.Ring.{ring_of}
 use Rattle.algebra.specs.Poly.{eval}
 use Rattle.algebra.specs.Series.{Series, ser, Below}
 use Rattle.algebra.proofs.Rings.{ring_laws, zero_add, mul_zero, zero_mul}
-use Rattle.algebra.proofs.Solve.{Ex, v, o, i, ◌⊕◌, ◌⊗◌, solve}
+use Rattle.algebra.proofs.Solve.{v, o, i, ◌⊕◌, ◌⊗◌, solve}
 use Rattle.polys.specs.Coefs.{poly, coefs, mono}
 use Rattle.polys.specs.Values.{value}
 use Rattle.polys.proofs.Lists.{coefs_map}

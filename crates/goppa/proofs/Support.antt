@@ -1,9 +1,6 @@
 -- The support of a code has none of its zeros.
-use Rattle.std.proofs.Common.{◌≡◌, ℕ, ◌+◌, ◌^◌, ◌<◌, ◌≤◌, List, length, get_or, take, drop, sym, refl, ap, ◌∙◌, arith, length-take, get_or-drop, get_or-take}
+use Rattle.std.proofs.Common.{◌≡◌, ℕ, ◌+◌, ◌<◌, get_or, drop, sym, ap, ◌∙◌, arith, length-take, get_or-drop, get_or-take}
 use Rattle.algebra.specs.Field.{Ops, Places}
-use Rattle.polys.specs.Values.{value}
-use Rattle.shuffles.specs.Orders.{Permutation}
-use Rattle.goppa.specs.Zeros.{Zeros}
 use Rattle.goppa.specs.Codes.{zeros, support, OffSupport}
 
 pub off_support : {A : Type 0} {m : ℕ} (f : Ops A) (pl : Places A m) → OffSupport f pl

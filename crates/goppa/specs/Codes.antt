@@ -1,5 +1,5 @@
 -- The code of a seed, over a field of 2^m elements: the first n of a shuffled list are the support, and the next t the zeros.
-use Rattle.std.specs.Prelude.{◌≡◌, ℕ, ◌+◌, ◌^◌, ◌<◌, ◌≤◌, List, take, drop, ◌≢◌, slice_index}
+use Rattle.std.specs.Prelude.{ℕ, ◌+◌, ◌^◌, ◌<◌, ◌≤◌, List, take, drop, ◌≢◌, slice_index}
 use Rattle.std.specs.List.{range_with_len}
 use Rattle.algebra.specs.Field.{Ops, Places}
 use Rattle.polys.specs.Values.{value}

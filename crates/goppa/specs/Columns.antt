@@ -1,5 +1,5 @@
 -- The columns: inverses of X - a modulo a polynomial.
-use Rattle.std.specs.Prelude.{◌≡◌, ℕ, zero, suc, ◌+◌, ◌-◌, ◌/◌, ◌%◌, ◌^◌, ◌<◌, List, get_or}
+use Rattle.std.specs.Prelude.{◌≡◌, ℕ, zero, suc, ◌+◌, ◌-◌, ◌<◌, List}
 use Rattle.algebra.specs.Field.{Ops, Places}
 use Rattle.algebra.specs.Series.{Series, Degree}
 use Rattle.polys.specs.Coefs.{coefs}

@@ -2,7 +2,6 @@
 use Rattle.std.specs.Prelude.{ℕ, List, codes}
 use Rattle.levels.specs.declared.faults.Fault.{Fault}
 use Rattle.levels.specs.declared.faults.Fault.TheVariants.{NoLevel, NoKey, WrongLength, ShortWork, SmallCapacity, NoUsableSeed, Unsound, OutOfForm}
-use Rattle.levels.specs.declared.faults.Defect.{Defect}
 use Rattle.levels.specs.declared.faults.Defect.TheVariants as defect
 use Rattle.levels.specs.declared.faults.Layer.{Layer}
 use Rattle.levels.specs.declared.faults.Layer.TheVariants as layer

@@ -1,5 +1,5 @@
 -- The rows of a call's table of refusals: what each tests, and the fault that it answers with.
-use Rattle.std.specs.Prelude.{ℕ, Bool, cond, not, List, [], ◌∷◌, ◌++◌, Ok, Err, Result, ◌==◌, nat_lt}
+use Rattle.std.specs.Prelude.{ℕ, Bool, cond, not, List, [], ◌∷◌, Ok, Err, Result, ◌==◌, nat_lt}
 use Rattle.levels.specs.declared.Sizes.{Sizes}
 use Rattle.levels.specs.declared.checks.WorkLengths.{WorkLengths}
 use Rattle.levels.specs.declared.faults.Fault.{Fault}

@@ -1,12 +1,12 @@
 -- The product of two vectors, byte by byte.
-use Rattle.std.proofs.Common.{◌≡◌, ℕ, ◌+◌, ◌*◌, ◌/◌, ◌%◌, ◌<◌, ◌≤◌, Bool, true, T, eqb, List, length, get_or, take, drop, sym, refl, ap, ◌∙◌, add-mul, one-mul, arith}
+use Rattle.std.proofs.Common.{◌≡◌, ℕ, ◌+◌, ◌*◌, ◌/◌, ◌%◌, ◌<◌, ◌≤◌, Bool, true, T, eqb, List, get_or, take, drop, sym, refl, ap, ◌∙◌, add-mul, one-mul, arith}
 use mathlib.Core.Bool.{beq}
 use lib.Bits.{bit_xor, bit_and}
 use lib.Count.{ones}
 use Rattle.std.proofs.lemmas.Nat.{div_below, mul-le}
 use Rattle.std.proofs.lemmas.List.{get_or-take, get_or-drop}
 use Rattle.bits.specs.Vectors.{◌⊕◌, Vector, dot}
-use Rattle.bits.specs.Packed.{power_of, bit_of, vector, matrix}
+use Rattle.bits.specs.Packed.{bit_of, vector, matrix}
 use Rattle.bits.proofs.Tried.{every, tried, beq_same}
 use Rattle.bits.proofs.Sums.{and_yes, dot_left, dot_same, dot_products, dot_split}
 use Rattle.bits.proofs.Places.{bit_of_xor, bit_of_and, vector_in}

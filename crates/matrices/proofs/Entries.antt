@@ -1,11 +1,11 @@
 -- Bits that are added in a row and a column, and columns of such bits.
-use Rattle.std.proofs.Common.{◌≡◌, ℕ, ◌+◌, ◌-◌, ◌*◌, ◌/◌, ◌%◌, ◌<◌, ◌≤◌, Bool, true, false, ◌&&◌, eqb, ltb, leb, ◌⊎◌, List, [], ◌++◌, length, get_or, take, drop, sym, refl, ap, ◌∙◌, inl, inr, arith}
+use Rattle.std.proofs.Common.{◌≡◌, ℕ, ◌+◌, ◌-◌, ◌*◌, ◌/◌, ◌%◌, ◌<◌, ◌≤◌, Bool, true, false, ◌&&◌, eqb, ltb, leb, List, [], ◌++◌, length, get_or, take, drop, sym, ap, ◌∙◌, inl, inr, arith}
 use borrow.Rule.Slice.PartMut.{put_mid}
 use Rattle.std.proofs.lemmas.Nat.{div_below, mod_below}
 use Rattle.std.proofs.lemmas.List.{get_or_append_left, get_or-append_right, get_or-take, get_or-drop, drop_all, length-drop, length-take-le, append-nil, take_all}
 use Rattle.std.proofs.lemmas.Bool.{cases_eq, cases_lt, eq-eqb, ne_eqb, lt-ltb, le-ltb, le-leb, lt-leb}
 use Rattle.bits.specs.Vectors.{◌⊕◌, Vector, Matrix}
-use Rattle.bits.specs.Packed.{bit_of, vector, matrix, BitAdded}
+use Rattle.bits.specs.Packed.{bit_of, matrix, BitAdded}
 use Rattle.bits.proofs.Sums.{xor_zero, and_no}
 use Rattle.bits.proofs.Places.{vector_in}
 use Rattle.matrices.specs.Columns.{EntryAdded, ColumnAdded}

@@ -1,10 +1,10 @@
 -- A sum that grows place by place, and [I | M] times a vector.
-use Rattle.std.proofs.Common.{◌≡◌, ℕ, ◌+◌, ◌-◌, ◌*◌, ◌/◌, ◌<◌, ◌≤◌, Bool, true, false, ◌&&◌, eqb, ◌⊎◌, List, length, get_or, take, drop, sym, refl, ap, ◌∙◌, inl, inr, arith}
+use Rattle.std.proofs.Common.{◌≡◌, ℕ, ◌+◌, ◌-◌, ◌*◌, ◌/◌, ◌<◌, ◌≤◌, Bool, List, length, take, drop, sym, refl, ap, ◌∙◌, inl, inr, arith}
 use Rattle.std.proofs.lemmas.Nat.{div_below}
 use Rattle.std.proofs.lemmas.List.{get_or-take, length-drop, take_rest}
 use Rattle.std.proofs.lemmas.Bool.{cases_eq, eq-eqb, ne_eqb}
 use Rattle.bits.specs.Vectors.{◌⊕◌, Vector, dot, times, systematic}
-use Rattle.bits.specs.Packed.{bit_of, vector, matrix, BitAdded}
+use Rattle.bits.specs.Packed.{vector, matrix, BitAdded}
 use Rattle.bits.proofs.Sums.{xor_zero, dot_same, in_two_parts}
 use Rattle.bits.proofs.Places.{vector_drop}
 

@@ -1,5 +1,5 @@
 -- Columns that are filled from numbers.
-use Rattle.std.specs.Prelude.{◌≡◌, ℕ, ◌+◌, ◌-◌, ◌/◌, ◌%◌, ◌^◌, ◌<◌, Bool, ◌&&◌, List, ◌==◌, nat_le, nat_lt, slice_index}
+use Rattle.std.specs.Prelude.{◌≡◌, ℕ, ◌-◌, ◌/◌, ◌%◌, ◌^◌, ◌<◌, Bool, ◌&&◌, List, ◌==◌, nat_le, nat_lt, slice_index}
 use Rattle.bits.specs.Vectors.{◌⊕◌, Vector, Matrix}
 
 -- bit i of a number has the weight 2 ^ i

@@ -1,7 +1,7 @@
 -- The decoder is complete: where the syndrome is that of t points, the locator that it computes is zero at these and nowhere else.
 use mathlib.Core.Path.{◌≡◌, refl, sym, ap, ◌∙◌}
 use mathlib.Core.List.{List, [], ◌∷◌}
-use Prim.Native.Nat.{ℕ, zero, suc, ◌+◌, ◌-◌, ◌/◌, ◌≤◌, ◌<◌}
+use Prim.Native.Nat.{ℕ, suc, ◌+◌, ◌-◌, ◌/◌, ◌≤◌, ◌<◌}
 use native.Mathlib.Omega.{arith}
 use Rattle.algebra.specs.Field.{Ops, Laws, Roots}
 use Rattle.algebra.proofs.Solve.{v, o, ◌⊕◌, ◌⊗◌}

@@ -1,7 +1,7 @@
 -- Euclid's rule: where it starts, that a step keeps what is known, and that the factor is never zero.
 use mathlib.Core.Path.{◌≡◌, refl, sym, ap, ap₂, ◌∙◌}
 use mathlib.Core.List.{List, [], ◌∷◌}
-use Prim.Native.Nat.{ℕ, zero, suc, ◌-◌, ◌≤◌}
+use Prim.Native.Nat.{ℕ, suc, ◌-◌, ◌≤◌}
 use native.Mathlib.Omega.{arith}
 use Rattle.algebra.specs.Field.{Ops, Laws}
 use Rattle.algebra.proofs.Rings.{ring_laws, mul_zero, zero_mul}

@@ -2,7 +2,6 @@
 use mathlib.Core.Path.{◌≡◌, ap, ◌∙◌}
 use mathlib.Core.List.{List, [], ◌∷◌}
 use mathlib.Core.Logic.{inl, inr}
-use Prim.Native.Nat.{zero}
 use Rattle.algebra.specs.Field.{Ops, Laws}
 use Rattle.algebra.proofs.Rings.{ring_laws, mul_zero, zero_mul}
 use Rattle.patterson.specs.Points.{In}

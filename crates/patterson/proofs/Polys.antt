@@ -11,7 +11,7 @@ use Rattle.algebra.specs.Poly.{sum, scale, product, eval}
 use Rattle.algebra.specs.Series.{Below, ser}
 use Rattle.algebra.proofs.Rings.{ring_laws, zero_add, mul_zero}
 use Rattle.algebra.proofs.Eval.{eval_sum, eval_scale, eval_product}
-use Rattle.algebra.proofs.Solve.{v, o, i, ◌⊕◌, ◌⊗◌}
+use Rattle.algebra.proofs.Solve.{v, o, ◌⊕◌, ◌⊗◌}
 use Rattle.patterson.specs.Points.{In, Distinct}
 use Rattle.patterson.specs.Polys.{Poly, Vanishes}
 use Rattle.patterson.proofs.Points.{each_of}

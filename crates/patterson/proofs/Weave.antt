@@ -6,7 +6,7 @@ use native.Mathlib.Omega.{arith}
 use lib.ListN.{length}
 use Rattle.algebra.specs.Field.{Ops, Laws}
 use Rattle.algebra.specs.Poly.{eval}
-use Rattle.algebra.proofs.Solve.{v, o, i, ◌⊕◌, ◌⊗◌}
+use Rattle.algebra.proofs.Solve.{v, o, ◌⊕◌, ◌⊗◌}
 use Rattle.patterson.specs.Points.{In, Distinct}
 use Rattle.patterson.specs.Polys.{Poly, Vanishes}
 use Rattle.patterson.specs.Locator.{from_parts}

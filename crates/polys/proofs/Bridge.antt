@@ -1,11 +1,11 @@
 -- From coefficients to values.
-use Rattle.std.proofs.Common.{◌≡◌, ℕ, zero, suc, ◌+◌, ◌-◌, List, [], ◌∷◌, map, sym, refl, ap, ◌∙◌, ap₂, arith}
+use Rattle.std.proofs.Common.{◌≡◌, ℕ, zero, suc, ◌-◌, List, [], ◌∷◌, map, sym, refl, ap, ◌∙◌, ap₂, arith}
 use mathlib.Core.Path.{fun_ext}
 use Rattle.algebra.specs.Field.{Ops, Laws, Places}
 use Rattle.algebra.specs.Ring.{ring_of}
 use Rattle.algebra.specs.Poly.{sum, product, eval}
 use Rattle.algebra.specs.Series.{Series, tail, ser, Below}
-use Rattle.algebra.proofs.Rings.{ring_laws, zero_add, mul_zero, zero_mul}
+use Rattle.algebra.proofs.Rings.{ring_laws, zero_add, mul_zero}
 use Rattle.algebra.proofs.Eval.{eval_sum, eval_product, eval_same}
 use Rattle.algebra.proofs.Lists.{ser_sum, ser_product}
 use Rattle.polys.specs.Coefs.{poly, coefs}

@@ -7,7 +7,7 @@ use Rattle.algebra.specs.Ring.{ring_of}
 use Rattle.algebra.specs.Series.{Series, tail, times, Below, Degree}
 use Rattle.algebra.proofs.Rings.{ring_laws, mul_zero, zero_mul, zero_add}
 use Rattle.algebra.proofs.Solve.{v, i, ◌⊕◌, ◌⊗◌, solve}
-use Rattle.polys.specs.Coefs.{poly, Division, OneDivision}
+use Rattle.polys.specs.Coefs.{poly, OneDivision}
 use Rattle.polys.specs.Euclid.{Gcd, OneGcd, OneInverse}
 use Rattle.polys.proofs.Terms.{poly_laws, at_add, at_zero, below_add, below_less}
 use Rattle.polys.proofs.Rule.{none_times, below_mul}

@@ -1,5 +1,5 @@
 -- The tests of a seal, part by part.
-use Rattle.std.proofs.Common.{◌≡◌, ℕ, ◌≤◌, ltb, List, [], ◌∷◌, ◌++◌, Ok, Err, Result, sym, refl, ap, ◌∙◌, subst, arith}
+use Rattle.std.proofs.Common.{◌≡◌, ℕ, ◌≤◌, ltb, List, [], ◌∷◌, Ok, Err, Result, sym, subst, arith}
 use Rattle.levels.specs.declared.Level.{Level}
 use Rattle.levels.specs.declared.Sizes.{Sizes}
 use Rattle.levels.specs.declared.checks.WorkLengths.{WorkLengths}

@@ -1,10 +1,10 @@
 -- What is written, in the words of tickets.
-use Rattle.std.proofs.Common.{◌≡◌, ℕ, ◌+◌, ◌-◌, ◌*◌, ◌<◌, ◌≤◌, List, [], ◌++◌, length, take, drop, codes, sym, refl, ap, ◌∙◌, inl, inr, arith}
+use Rattle.std.proofs.Common.{◌≡◌, ℕ, ◌+◌, ◌-◌, ◌*◌, ◌<◌, List, [], ◌++◌, length, take, drop, codes, refl, ap, ◌∙◌, inl, inr, arith}
 use Rattle.std.proofs.lemmas.List.{take_at, drop_all, length-drop, append-nil}
 use Rattle.std.proofs.lemmas.Bool.{cases_lt, lt-ltb, le-ltb}
 use Rattle.levels.specs.declared.Sizes.{Sizes}
 use Rattle.levels.specs.Table.{Lawful}
-use Rattle.bits.specs.Vectors.{Vector, Matrix, dot, times, systematic, weight}
+use Rattle.bits.specs.Vectors.{Vector, Matrix, times, systematic, weight}
 use Rattle.bits.specs.Packed.{vector, matrix, packed, Bytes}
 use Rattle.bits.proofs.Sums.{dot_same}
 use Rattle.bits.proofs.Packing.{packed_is, packed_same, vector_packed}

@@ -4,7 +4,6 @@ use Rattle.levels.specs.declared.Level.{Level}
 use Rattle.levels.specs.declared.Sizes.{Sizes}
 use Rattle.levels.specs.declared.checks.WorkLengths.{WorkLengths}
 use Rattle.levels.specs.declared.faults.Fault.{Fault}
-use Rattle.levels.specs.Names.{level_of}
 use Rattle.levels.specs.Table.{sizes_of}
 use Rattle.levels.specs.Rows.{Row, first_of, length_row, work_rows, capacity_row}
 use Rattle.bits.specs.Vectors.{Vector, Matrix, weight}

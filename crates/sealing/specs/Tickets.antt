@@ -1,5 +1,5 @@
 -- What it means that a ticket seals a vector, for any hash rule and any matrix M.
-use Rattle.std.specs.Prelude.{◌≡◌, ℕ, ◌-◌, List, ◌++◌, codes}
+use Rattle.std.specs.Prelude.{◌≡◌, ℕ, List, ◌++◌, codes}
 use Rattle.levels.specs.declared.Sizes.{Sizes}
 use Rattle.bits.specs.Vectors.{Vector, Matrix, times, systematic}
 use Rattle.bits.specs.Packed.{packed}

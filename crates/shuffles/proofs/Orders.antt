@@ -1,8 +1,8 @@
 -- Places in an order, and vectors that are filled one place a turn.
-use Rattle.std.proofs.Common.{◌≡◌, ℕ, zero, suc, ◌+◌, ◌*◌, ◌<◌, ◌≤◌, Bool, true, false, cond, ◌&&◌, ◌||◌, eqb, ltb, ◌⊎◌, List, [], ◌∷◌, length, get_or, take, replicate, sym, refl, ap, ◌∙◌, subst, inl, inr, arith}
+use Rattle.std.proofs.Common.{◌≡◌, ℕ, zero, suc, ◌+◌, ◌*◌, ◌<◌, ◌≤◌, Bool, ◌&&◌, ltb, List, [], ◌∷◌, length, get_or, take, replicate, sym, refl, ap, ◌∙◌, inl, inr, arith}
 use lib.Dec.{leb-suc-suc}
 use Rattle.std.proofs.lemmas.Bool.{cases_eq, cases_lt, eq-eqb, ne_eqb, lt-ltb, le-ltb}
-use Rattle.bits.specs.Vectors.{◌⊕◌, Vector}
+use Rattle.bits.specs.Vectors.{Vector}
 use Rattle.bits.specs.Packed.{vector, packed, Bytes, BitAdded}
 use Rattle.bits.proofs.Packing.{packed_is}
 use Rattle.bits.proofs.Sums.{xor_zero}

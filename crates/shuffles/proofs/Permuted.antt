@@ -1,5 +1,5 @@
 -- A sum over the numbers below n is the same in another order: weights and products of permuted vectors.
-use Rattle.std.proofs.Common.{◌≡◌, ℕ, zero, suc, ◌+◌, ◌<◌, ◌≤◌, Bool, true, false, cond, ◌&&◌, ltb, List, get_or, sym, refl, ap, ◌∙◌, inl, inr, add-zero, add_assoc, add_comm, arith}
+use Rattle.std.proofs.Common.{◌≡◌, ℕ, zero, suc, ◌+◌, ◌<◌, ◌≤◌, false, cond, ◌&&◌, ltb, List, get_or, sym, refl, ap, ◌∙◌, inl, inr, add-zero, add_assoc, add_comm, arith}
 use Rattle.std.proofs.lemmas.Bool.{cases_eq, cases_lt, lt-ltb, le-ltb}
 use Rattle.bits.specs.Vectors.{◌⊕◌, Vector, dot, weight}
 use Rattle.bits.proofs.Sums.{xor_zero, xor_assoc, xor_comm}

@@ -1,5 +1,5 @@
 -- The order of the positions by a seed, and what is built of it.
-use Rattle.std.specs.Prelude.{◌≡◌, ℕ, suc, ◌<◌, Bool, false, cond, ◌||◌, List, [], ◌∷◌, length, take, ◌==◌, slice_index}
+use Rattle.std.specs.Prelude.{◌≡◌, ℕ, suc, ◌<◌, false, cond, ◌||◌, List, [], ◌∷◌, length, take, ◌==◌, slice_index}
 use Rattle.std.specs.List.{range_with_len}
 use Rattle.bits.specs.Vectors.{Vector}
 use Rattle.shuffles.specs.Shuffle.{shuffled}

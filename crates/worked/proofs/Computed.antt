@@ -1,7 +1,7 @@
 -- The worked examples are computed.
 use Rattle.std.proofs.Common.{refl}
 use Rattle.bits.specs.Packed.{weights, packed}
-use Rattle.shuffles.specs.Orders.{order, place_of, among, error_vector_of}
+use Rattle.shuffles.specs.Orders.{order, place_of, among}
 use Rattle.worked.specs.Examples.{Examples}
 
 pub examples : Examples

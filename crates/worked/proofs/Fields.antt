@@ -1,9 +1,9 @@
 -- The worked examples of the fields are computed.
-use Rattle.std.proofs.Common.{◌≡◌, [], ◌∷◌, sym, refl, ◌∙◌}
+use Rattle.std.proofs.Common.{◌≡◌, sym, refl, ◌∙◌}
 use Rattle.algebra.specs.Numbers.{within}
 use Rattle.algebra.specs.Shifts.{times_z, times_bits}
 use Rattle.field64.specs.Tables.{mul64, inv64}
-use Rattle.field64.specs.Model.{at64, ops64, places64}
+use Rattle.field64.specs.Model.{at64, places64}
 use Rattle.field64.specs.Laws.{laws64}
 use Rattle.field8192.specs.Product.{mul8192, square8192, ones, inv8192}
 use Rattle.field8192.specs.Model.{at8192, ops8192, places8192}

@@ -1,11 +1,11 @@
 -- (X - a)(X - b) by its coefficients, and that a square has one root, over every field of characteristic 2.
-use Rattle.std.proofs.Common.{◌≡◌, ℕ, zero, suc, List, [], ◌∷◌, sym, refl, ap, ◌∙◌, ap₂, inl, inr}
+use Rattle.std.proofs.Common.{◌≡◌, ℕ, zero, suc, [], ◌∷◌, sym, refl, ap, ◌∙◌, ap₂, inl, inr}
 use mathlib.Core.Path.{fun_ext}
 use Rattle.std.proofs.lemmas.Bool.{cases_eq}
 use Rattle.algebra.specs.Field.{Ops, Laws, Places}
 use Rattle.algebra.specs.Series.{Series}
 use Rattle.algebra.proofs.Rings.{ring_laws, zero_add, zero_mul}
-use Rattle.algebra.proofs.Solve.{Ex, v, o, i, ◌⊕◌, ◌⊗◌, solve}
+use Rattle.algebra.proofs.Solve.{v, o, i, ◌⊕◌, ◌⊗◌, solve}
 use Rattle.polys.specs.Coefs.{poly, coefs}
 use Rattle.goppa.specs.Zeros.{linear, from_zeros}
 use Rattle.goppa.proofs.Linear.{linear_zero, linear_suc}

@@ -1,5 +1,5 @@
 -- The worked examples.
-use Rattle.std.specs.Prelude.{◌≡◌, ℕ, Bool, true, false, List, [], ◌∷◌, ◌++◌, map, replicate, ◌==◌}
+use Rattle.std.specs.Prelude.{◌≡◌, ℕ, Bool, true, false, List, [], ◌∷◌, map, replicate, ◌==◌}
 use Rattle.std.specs.List.{range_with_len}
 use Rattle.bits.specs.Vectors.{Vector}
 use Rattle.bits.specs.Packed.{packed}

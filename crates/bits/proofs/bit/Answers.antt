@@ -1,6 +1,6 @@
-use Rattle.std.proofs.Common.{◌≡◌, ◌/◌, ◌%◌, ◌^◌, eqb, get_or, ap, ◌∙◌}
+use Rattle.std.proofs.Common.{◌/◌, ◌%◌, ◌^◌, eqb, get_or, ap, ◌∙◌}
 use lib.Bits.{and_mask}
-use Rattle.bits.specs.Packed.{vector, bit_of, power_of}
+use Rattle.bits.specs.Packed.{vector, bit_of}
 use Rattle.bits.proofs.bit.Goals as goal
 
 pub returns : goal.returns

@@ -1,4 +1,4 @@
-use Rattle.std.proofs.Common.{◌≡◌, ℕ, ◌*◌, List, length, get_or, take, sym, ap, ◌∙◌, arith}
+use Rattle.std.proofs.Common.{◌≡◌, ℕ, ◌*◌, List, get_or, sym, ap, ◌∙◌, arith}
 use lib.Bits.{and_mask}
 use Rattle.std.proofs.lemmas.List.{take_all}
 use Rattle.bits.specs.Words.{word, word_bytes}

@@ -1,5 +1,4 @@
-use Rattle.std.proofs.Common.{◌≡◌, ◌+◌, ◌*◌, length, ◌∙◌, arith}
-use Rattle.std.proofs.lemmas.Nat.{mul-le}
+use Rattle.std.proofs.Common.{◌*◌, length, ◌∙◌, arith}
 use Rattle.bits.specs.Vectors.{Vector, dot}
 use Rattle.bits.specs.Packed.{vector, matrix}
 use Rattle.matrices.proofs.Bytes.{row_before, row_part}

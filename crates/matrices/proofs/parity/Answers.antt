@@ -1,7 +1,7 @@
 use Rattle.std.proofs.Common.{◌≡◌, length, get_or, sym, refl, ◌∙◌, arith}
 use lib.Bits.{bit_and, xor_lt, and_le_l}
 use Rattle.bits.specs.Vectors.{dot}
-use Rattle.bits.specs.Packed.{bit_of, power_of}
+use Rattle.bits.specs.Packed.{bit_of}
 use Rattle.matrices.specs.Parity.{parity_of}
 use Rattle.matrices.proofs.Bytes.{parity_more, parity_ones}
 use Rattle.matrices.proofs.parity.Goals as goal

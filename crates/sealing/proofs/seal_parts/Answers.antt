@@ -1,7 +1,4 @@
-use Rattle.std.proofs.Common.{◌≡◌, ℕ, List, ◌++◌, length, codes, sym, ap, ◌∙◌, arith}
-use Rattle.bits.specs.Vectors.{weight}
-use Rattle.bits.specs.Packed.{packed}
-use Rattle.shuffles.specs.Orders.{error_vector_of}
+use Rattle.std.proofs.Common.{◌≡◌, ◌++◌, length, codes, ap, ◌∙◌}
 use Rattle.sealing.specs.Tickets.{Rule}
 use Rattle.sealing.proofs.Tickets.{sealed}
 use Rattle.sealing.proofs.seal_parts.Goals as goal

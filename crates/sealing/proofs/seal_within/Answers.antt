@@ -1,4 +1,4 @@
-use Rattle.std.proofs.Common.{◌≡◌, ℕ, length, Ok, sym, ap, ◌∙◌}
+use Rattle.std.proofs.Common.{◌≡◌, length, Ok, sym, ap, ◌∙◌}
 use Rattle.levels.specs.declared.checks.WorkLengths.{WorkLengths}
 use Rattle.levels.specs.Names.{level_of}
 use Rattle.sealing.specs.declared.Lengths.{Lengths}

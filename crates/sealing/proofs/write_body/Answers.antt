@@ -1,7 +1,6 @@
-use Rattle.std.proofs.Common.{◌≡◌, ℕ, ◌-◌, ◌*◌, List, length, sym, ap, ◌∙◌, arith}
+use Rattle.std.proofs.Common.{◌≡◌, ℕ, ◌-◌, ◌*◌, List, length, ap, ◌∙◌, arith}
 use Rattle.bits.specs.Vectors.{times, systematic}
 use Rattle.bits.specs.Packed.{vector, matrix, packed}
-use Rattle.shuffles.specs.Orders.{perm}
 use Rattle.sealing.proofs.Tickets.{body_is}
 use Rattle.sealing.proofs.write_body.Goals as goal
 

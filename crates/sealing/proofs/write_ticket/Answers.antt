@@ -1,4 +1,4 @@
-use Rattle.std.proofs.Common.{◌≡◌, ap, ◌∙◌, arith}
+use Rattle.std.proofs.Common.{◌∙◌}
 use Rattle.bits.specs.Packed.{vector}
 use Rattle.sealing.specs.Calls.{public_matrix}
 use Rattle.sealing.proofs.Tickets.{head_is, seals}

@@ -1,8 +1,7 @@
-use Rattle.std.proofs.Common.{◌≡◌, ℕ, ◌<◌, true, ◌&&◌, List, length, get_or, replicate, sym, refl, ap, ◌∙◌, arith, rules}
-use Rattle.bits.specs.Packed.{vector}
+use Rattle.std.proofs.Common.{◌≡◌, true, length, get_or, replicate, sym, refl, ap, ◌∙◌, arith, rules}
 use Rattle.bits.proofs.Sums.{and_yes}
 use Rattle.bits.proofs.Packing.{packed_is}
-use Rattle.shuffles.specs.Orders.{place_of, among}
+use Rattle.shuffles.specs.Orders.{place_of}
 use Rattle.shuffles.proofs.Orders.{Filled, filled_none, filled_more, at_place, place_of_lem, among_first}
 use Rattle.shuffles.proofs.Marks.{weight_among}
 use Rattle.shuffles.proofs.mark.Goals as goal

@@ -1,4 +1,4 @@
-use Rattle.std.proofs.Common.{◌≡◌, ℕ, ◌<◌, List, length, get_or, replicate, sym, refl, ap, ◌∙◌, arith, rules}
+use Rattle.std.proofs.Common.{◌≡◌, ℕ, ◌<◌, length, get_or, replicate, sym, ap, ◌∙◌, arith, rules}
 use Rattle.bits.specs.Packed.{vector}
 use Rattle.shuffles.specs.Orders.{place_of, perm}
 use Rattle.shuffles.proofs.Orders.{filled_none, filled_more, filled_all, filled_packed, place_below, at_place, place_of_lem}

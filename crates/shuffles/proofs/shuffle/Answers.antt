@@ -1,4 +1,4 @@
-use Rattle.std.proofs.Common.{◌≡◌, List, count_by, ap, ◌∙◌, rules}
+use Rattle.std.proofs.Common.{◌≡◌, count_by, ap, ◌∙◌, rules}
 use Rattle.shuffles.specs.Shuffle.{shuffled}
 use Rattle.shuffles.proofs.Shuffles.{keeps}
 use Rattle.shuffles.proofs.shuffle.Goals as goal

@@ -1,4 +1,4 @@
-use Rattle.std.proofs.Common.{◌≡◌, ℕ, ◌-◌, ◌<◌}
+use Rattle.std.proofs.Common.{◌≡◌, ◌-◌, ◌<◌}
 use Rattle.shuffles.specs.Shuffle.{shuffle_from, shuffled}
 use Rattle.shuffles.proofs.shuffle.Given as goal
 

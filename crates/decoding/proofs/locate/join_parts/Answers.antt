@@ -1,6 +1,5 @@
-use Rattle.std.proofs.Common.{◌≡◌, sym, ap, ◌∙◌, subst, ap₂, rules}
+use Rattle.std.proofs.Common.{sym, ◌∙◌, subst, ap₂, rules}
 use Rattle.algebra.specs.Series.{Series, Below}
-use Rattle.polys.specs.Values.{value}
 use Rattle.decoding.proofs.Values.{value_times}
 use Rattle.decoding.proofs.locate.join_parts.Goals as goal
 

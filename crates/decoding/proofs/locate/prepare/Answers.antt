@@ -1,4 +1,4 @@
-use Rattle.std.proofs.Common.{◌≡◌, ℕ, ◌+◌, sym, ap, ◌∙◌, arith, rules}
+use Rattle.std.proofs.Common.{◌+◌, sym, ap, ◌∙◌, arith, rules}
 use Rattle.algebra.specs.Series.{Degree}
 use Rattle.polys.specs.Coefs.{coefs}
 use Rattle.polys.specs.Values.{value}

@@ -1,4 +1,4 @@
-use Rattle.std.proofs.Common.{◌≡◌, ℕ, ◌+◌, ◌*◌, ◌<◌, length, get_or, sym, ap, ◌∙◌, ap₂, arith}
+use Rattle.std.proofs.Common.{◌≡◌, ◌+◌, ◌*◌, ◌<◌, length, get_or, sym, ap, ◌∙◌, ap₂, arith}
 use native.Mathlib.Decide.{dec_lt}
 use Rattle.algebra.proofs.Rings.{ring_laws, mul_zero}
 use Rattle.polys.specs.Coefs.{coefs}

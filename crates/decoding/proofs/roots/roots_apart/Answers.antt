@@ -1,5 +1,5 @@
-use Rattle.std.proofs.Common.{◌≡◌, ℕ, ◌+◌, ◌*◌, ◌≤◌, length, sym, ap, ◌∙◌, arith}
-use Rattle.algebra.specs.Series.{Series, Below}
+use Rattle.std.proofs.Common.{◌≡◌, ℕ, ◌+◌, ◌*◌, length, ap, ◌∙◌, arith}
+use Rattle.algebra.specs.Series.{Below}
 use Rattle.polys.specs.Coefs.{coefs}
 use Rattle.polys.proofs.Lists.{below_list}
 use Rattle.patterson.proofs.Numbered.{same_from}

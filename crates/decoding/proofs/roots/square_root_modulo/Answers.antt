@@ -1,4 +1,4 @@
-use Rattle.std.proofs.Common.{◌≡◌, ℕ, ◌+◌, ◌*◌, sym, ap, ◌∙◌, subst, ap₂, arith}
+use Rattle.std.proofs.Common.{◌≡◌, ℕ, ◌+◌, ◌*◌, sym, ap, ◌∙◌, subst, arith}
 use Rattle.algebra.specs.Series.{Series, Below}
 use Rattle.polys.specs.Coefs.{coefs}
 use Rattle.polys.specs.Values.{value}

@@ -1,4 +1,4 @@
-use Rattle.std.proofs.Common.{◌≡◌, ℕ, List, sym, ap, ◌∙◌, subst}
+use Rattle.std.proofs.Common.{ℕ, List, subst}
 use Rattle.algebra.specs.Series.{Series}
 use Rattle.polys.specs.Coefs.{coefs}
 use Rattle.polys.specs.Euclid.{Gcd}

@@ -1,4 +1,4 @@
-use Rattle.std.proofs.Common.{◌≡◌, length, take, sym, ap, ◌∙◌, subst, rules}
+use Rattle.std.proofs.Common.{◌≡◌, length, take, rules}
 use Rattle.polys.specs.Coefs.{coefs, Division}
 use Rattle.decoding.proofs.States.{divided, product_under, product_value}
 use Rattle.decoding.proofs.steps.product_modulo.Goals as goal

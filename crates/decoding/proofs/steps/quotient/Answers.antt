@@ -1,4 +1,4 @@
-use Rattle.std.proofs.Common.{◌≡◌, length, sym, ap, ◌∙◌, subst}
+use Rattle.std.proofs.Common.{length, sym, ◌∙◌, subst}
 use Rattle.algebra.specs.Series.{Series, Degree}
 use Rattle.polys.specs.Coefs.{coefs, Division}
 use Rattle.polys.proofs.Lists.{below_list}

@@ -1,4 +1,4 @@
-use Rattle.std.proofs.Common.{◌≡◌, length, get_or, sym, refl, ap, ◌∙◌, arith, length-set}
+use Rattle.std.proofs.Common.{◌≡◌, length, get_or, sym, ap, ◌∙◌, arith, length-set}
 use Rattle.polys.specs.Coefs.{poly, coefs, mono}
 use Rattle.polys.proofs.Lists.{coefs_zeros, coefs_at, write_new, get_d_zeros}
 use Rattle.polys.proofs.Rule.{one_write}

@@ -1,4 +1,4 @@
-use Rattle.std.proofs.Common.{◌≡◌, ℕ, ◌^◌, ◌≤◌, List, length, sym, ap, ◌∙◌, subst, arith, pow_mono}
+use Rattle.std.proofs.Common.{◌≡◌, ℕ, ◌^◌, ◌≤◌, List, sym, ap, ◌∙◌, subst, pow_mono}
 use Rattle.std.specs.List.{range_with_len}
 use Rattle.shuffles.specs.Shuffle.{shuffled}
 use Rattle.shuffles.specs.Orders.{order, Permutation}

@@ -1,4 +1,4 @@
-use Rattle.std.proofs.Common.{◌≡◌, length, sym, refl, ap, ◌∙◌, subst, arith}
+use Rattle.std.proofs.Common.{◌≡◌, length, arith}
 use Rattle.polys.specs.Values.{value}
 use Rattle.goppa.proofs.Quotients.{column_is}
 use Rattle.goppa.proofs.columns.column.Goals as goal

@@ -1,4 +1,4 @@
-use Rattle.std.proofs.Common.{◌≡◌, ℕ, ◌-◌, ◌*◌, length, sym, ap, ◌∙◌, subst, arith}
+use Rattle.std.proofs.Common.{◌≡◌, ◌-◌, ◌*◌, length, sym, ap, ◌∙◌, arith}
 use Rattle.bits.specs.Packed.{matrix}
 use Rattle.polys.specs.Values.{value}
 use Rattle.matrices.specs.Columns.{bits_of, ColumnAdded}

@@ -1,4 +1,4 @@
-use Rattle.std.proofs.Common.{◌≡◌, ℕ, ◌*◌, length, get_or, replicate, refl, ap, ◌∙◌, arith, rules}
+use Rattle.std.proofs.Common.{◌≡◌, ◌*◌, length, get_or, replicate, refl, arith, rules}
 use Rattle.bits.specs.Packed.{matrix}
 use Rattle.matrices.specs.Columns.{ColumnAdded}
 use Rattle.goppa.specs.Matrix.{column_bits, mixed_matrix}

@@ -1,10 +1,9 @@
-use Rattle.std.proofs.Common.{◌≡◌, ℕ, zero, suc, ◌+◌, ◌-◌, ◌^◌, ◌<◌, ◌≤◌, List, map, length, get_or, drop, set, replicate, sym, refl, ap, ◌∙◌, subst, arith, length-drop, length-set, pow_pos}
+use Rattle.std.proofs.Common.{◌≡◌, ℕ, zero, suc, ◌+◌, ◌-◌, ◌^◌, ◌<◌, List, map, length, get_or, drop, set, replicate, sym, ap, ◌∙◌, subst, arith, length-drop, length-set, pow_pos}
 use Rattle.std.proofs.lemmas.List.{length-map}
-use Rattle.algebra.specs.Series.{Series, Below}
 use Rattle.polys.specs.Coefs.{poly, coefs, mono}
 use Rattle.polys.proofs.Lists.{coefs_zeros, write_new, get_d_zeros}
 use Rattle.polys.proofs.Rule.{one_write}
-use Rattle.goppa.specs.Zeros.{linear, from_zeros, Monic}
+use Rattle.goppa.specs.Zeros.{from_zeros}
 use Rattle.goppa.proofs.Roots.{from_none, from_more, from_monic, value_from, zeros_are}
 use Rattle.goppa.proofs.zeros.goppa_polynomial.Goals as goal
 

@@ -1,4 +1,4 @@
-use Rattle.std.proofs.Common.{◌≡◌, ℕ, ◌+◌, ◌<◌, ◌≤◌, length, get_or, sym, refl, ap, ◌∙◌, add-one, arith}
+use Rattle.std.proofs.Common.{◌≡◌, ◌<◌, length, sym, refl, ap, ◌∙◌, add-one, arith}
 use Rattle.polys.specs.Coefs.{poly, coefs, mono}
 use Rattle.polys.proofs.Lists.{coefs_at}
 use Rattle.polys.proofs.Points.{below_set, above_set}

@@ -1,4 +1,4 @@
-use Rattle.std.proofs.Common.{◌≡◌, true, false, codes, refl, rules}
+use Rattle.std.proofs.Common.{◌≡◌, false, codes, refl, rules}
 use Rattle.std.specs.Str.{bytes_eq}
 use Rattle.std.proofs.lemmas.Slice.Eq.{bytes_eq-Decides}
 use Rattle.levels.proofs.Level.from_name.Goals as goal

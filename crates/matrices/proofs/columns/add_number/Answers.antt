@@ -1,4 +1,4 @@
-use Rattle.std.proofs.Common.{◌≡◌, ℕ, ◌+◌, ◌-◌, ◌*◌, ◌/◌, ◌^◌, Bool, eqb, refl, ap, ◌∙◌, arith}
+use Rattle.std.proofs.Common.{◌≡◌, ◌+◌, ◌-◌, ◌*◌, ◌/◌, ◌^◌, Bool, eqb, ap, arith}
 use lib.Bits.{bit_and, and_mask}
 use Rattle.bits.specs.Packed.{matrix}
 use Rattle.matrices.specs.Columns.{number_bit}
