@@ -17,8 +17,8 @@ use levels::Level;
 use levels::faults::{Fault, Layer, Part};
 use levels::guards::{Place, Position, PositionsGuard};
 use narrow::Narrow;
-use sha512::Sha2;
 use sha3::Sha3;
+use sha512::Sha2;
 
 fn layer_code(layer: Layer) -> u64
     ensures { result ≡ code_of_layer layer }

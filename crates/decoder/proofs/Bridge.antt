@@ -1,5 +1,5 @@
 -- Error vectors as bits, and as lists over the support.
-use Rattle.std.proofs.Common.{◌≡◌, ℕ, zero, suc, ◌+◌, ◌*◌, ◌/◌, ◌%◌, ◌^◌, ◌<◌, ◌≤◌, Bool, true, false, cond, List, [], ◌∷◌, map, length, get_or, sym, refl, ap, ◌∙◌, subst, ap₂, mul_comm, arith}
+use Rattle.std.proofs.Common.{◌≡◌, ℕ, ◌+◌, ◌*◌, ◌/◌, ◌%◌, ◌<◌, ◌≤◌, List, map, length, get_or, sym, refl, ap, ◌∙◌, ap₂, mul_comm, arith}
 use native.Mathlib.Decide.{dec_lt}
 use lib.Bits.{bit_xor}
 use Rattle.std.proofs.lemmas.Nat.{div-mul-add, mod-mul-add, mul-add-lt, div_below}
@@ -7,18 +7,17 @@ use Rattle.std.proofs.lemmas.List.{length-map, get_or_past}
 use Rattle.algebra.specs.Field.{Ops, Laws, Places}
 use Rattle.algebra.specs.Ring.{ring_of}
 use Rattle.algebra.specs.Series.{Series, ser}
-use Rattle.polys.specs.Coefs.{coefs, Placed}
-use Rattle.polys.specs.Values.{value}
+use Rattle.polys.specs.Coefs.{Placed}
 use Rattle.polys.proofs.Lists.{coefs_map, coefs_at}
 use Rattle.polys.proofs.Bridge.{front}
-use Rattle.bits.specs.Vectors.{Vector, Matrix, dot, weight, times}
+use Rattle.bits.specs.Vectors.{Vector, times}
 use Rattle.bits.proofs.Sums.{dot_same}
 use Rattle.matrices.specs.Columns.{number_bit, bits_of}
 use Rattle.goppa.specs.Matrix.{column_place, column_bits}
 use Rattle.patterson.specs.Columns.{columns_sum}
 use Rattle.patterson.specs.Errors.{ErrorVector}
 use Rattle.patterson.proofs.Columns.{length_columns}
-use Rattle.decoder.specs.Sums.{selected, column_sum}
+use Rattle.decoder.specs.Sums.{column_sum}
 use Rattle.decoder.specs.Errors.{check_matrix, ErrorOf}
 use Rattle.decoder.proofs.Numbers.{same_bits}
 use Rattle.decoder.proofs.Vectors.{length_front, weight_front}

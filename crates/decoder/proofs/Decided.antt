@@ -1,9 +1,9 @@
 -- The vector of the zeros of a locator is the only one that can be an error vector.
-use Rattle.std.proofs.Common.{◌≡◌, ℕ, zero, suc, ◌+◌, ◌*◌, ◌<◌, ◌≤◌, Bool, true, false, cond, eqb, List, map, length, get_or, sym, refl, ap, ◌∙◌, ap₂, arith}
+use Rattle.std.proofs.Common.{◌≡◌, ℕ, zero, suc, ◌+◌, ◌*◌, ◌<◌, ◌≤◌, Bool, true, cond, eqb, List, map, length, get_or, sym, refl, ap, ◌∙◌, ap₂, arith}
 use lib.Bits.{bit_xor}
 use Rattle.std.proofs.lemmas.List.{length-map}
 use Rattle.std.proofs.lemmas.Bool.{eq-eqb, eqb-true}
-use Rattle.algebra.specs.Field.{Ops, Laws, Places}
+use Rattle.algebra.specs.Field.{Ops, Places}
 use Rattle.polys.specs.Coefs.{Placed}
 use Rattle.polys.specs.Values.{value}
 use Rattle.polys.proofs.Bridge.{front}
@@ -11,9 +11,9 @@ use Rattle.polys.proofs.Points.{num_zero}
 use Rattle.bits.specs.Vectors.{Vector, weight}
 use Rattle.bits.proofs.Sums.{dot_same}
 use Rattle.matrices.specs.Columns.{bits_of}
-use Rattle.patterson.specs.Code.{Perfect, GoppaCode}
+use Rattle.patterson.specs.Code.{Perfect}
 use Rattle.patterson.specs.Errors.{ErrorValues}
-use Rattle.patterson.proofs.Vectors.{chosen_in, marked}
+use Rattle.patterson.proofs.Vectors.{marked}
 use Rattle.patterson.proofs.Theorems.{values_of}
 use Rattle.decoding.specs.Stages.{Locates, NoErrors}
 use Rattle.decoder.specs.Codes.{CodeOf}

@@ -1,10 +1,9 @@
 -- The low bits of numbers.
-use Rattle.std.proofs.Common.{◌≡◌, ℕ, zero, suc, ◌+◌, ◌*◌, ◌/◌, ◌%◌, ◌^◌, ◌<◌, Bool, true, false, eqb, ◌⊎◌, sym, refl, ap, ◌∙◌, inl, inr, pow-suc, div-one, arith}
+use Rattle.std.proofs.Common.{◌≡◌, ℕ, zero, suc, ◌+◌, ◌*◌, ◌/◌, ◌%◌, ◌^◌, ◌<◌, Bool, true, false, eqb, sym, refl, ap, ◌∙◌, pow-suc, div-one, arith}
 use native.Mathlib.Nat.{div-div-eq-div-mul, pow-succ', zero-div}
 use lib.Bits.{bit_xor, xor_shr, xor_mod}
 use mir.Val.{bool_byte}
 use Rattle.std.proofs.lemmas.Nat.{mod_below}
-use Rattle.std.proofs.lemmas.Bool.{cases_eq, eq-eqb, ne_eqb, eqb-true}
 use Rattle.bits.specs.Vectors.{◌⊕◌}
 use Rattle.bits.proofs.Places.{xor_digit}
 use Rattle.matrices.specs.Columns.{number_bit}

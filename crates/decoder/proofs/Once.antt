@@ -1,5 +1,5 @@
 -- A syndrome has one error vector at most.
-use Rattle.std.proofs.Common.{◌≡◌, ℕ, ◌+◌, ◌*◌, ◌^◌, ◌<◌, ◌≤◌, List, map, length, get_or, sym, refl, ap, ◌∙◌, inl, inr, arith, pow_pos}
+use Rattle.std.proofs.Common.{◌≡◌, ℕ, ◌+◌, ◌*◌, ◌<◌, ◌≤◌, List, map, length, get_or, sym, refl, ◌∙◌, inl, inr, arith, pow_pos}
 use lib.Bits.{bit_xor}
 use Rattle.std.specs.List.{range_with_len}
 use Rattle.std.proofs.lemmas.List.FromFn.{length-map-range_with_len, get_or-map-range_with_len}
@@ -9,12 +9,12 @@ use Rattle.algebra.specs.Field.{Ops, Places}
 use Rattle.polys.specs.Coefs.{Placed}
 use Rattle.polys.specs.Values.{value}
 use Rattle.polys.proofs.Bridge.{front}
-use Rattle.bits.specs.Vectors.{Vector, times}
+use Rattle.bits.specs.Vectors.{Vector}
 use Rattle.matrices.specs.Columns.{bits_of}
 use Rattle.patterson.specs.Code.{Perfect}
 use Rattle.patterson.proofs.Theorems.{one_vector}
 use Rattle.decoder.specs.Codes.{CodeOf}
-use Rattle.decoder.specs.Errors.{check_matrix, ErrorOf}
+use Rattle.decoder.specs.Errors.{ErrorOf}
 use Rattle.decoder.specs.Sums.{column_sum}
 use Rattle.decoder.proofs.Bridge.{sums_from}
 use Rattle.decoder.proofs.Lists.{goppa_code}

@@ -12,7 +12,7 @@ use Rattle.polys.specs.Values.{value}
 use Rattle.polys.proofs.Bridge.{front}
 use Rattle.polys.proofs.Points.{num_zero}
 use Rattle.bits.specs.Vectors.{◌⊕◌, Vector, dot}
-use Rattle.bits.proofs.Sums.{xor_zero, and_no, and_yes}
+use Rattle.bits.proofs.Sums.{and_no, and_yes}
 use Rattle.matrices.specs.Columns.{number_bit}
 use Rattle.goppa.specs.Columns.{over_coefficient}
 use Rattle.goppa.specs.Matrix.{column_place}

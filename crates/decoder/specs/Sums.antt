@@ -1,5 +1,5 @@
 -- The sum of the columns of the check matrix that a vector selects, as elements.
-use Rattle.std.specs.Prelude.{ℕ, zero, suc, cond, List, length, slice_index}
+use Rattle.std.specs.Prelude.{ℕ, zero, suc, cond, List, slice_index}
 use Rattle.algebra.specs.Field.{Ops, Places}
 use Rattle.bits.specs.Vectors.{Vector}
 use Rattle.goppa.specs.Matrix.{column_place}

@@ -6,7 +6,6 @@ use Rattle.levels.specs.Table.{Lawful}
 use Rattle.bits.specs.Vectors.{Matrix, systematic}
 use Rattle.bits.specs.Packed.{matrix}
 use Rattle.bits.specs.Words.{word_bytes}
-use Rattle.bits.specs.Rows.{matrix_bytes}
 use Rattle.bits.specs.Kernels.{Same, Echelon, independent}
 use Rattle.bits.specs.Reduced.{reduced_of}
 use Rattle.bits.proofs.Decision.{independent_same}

@@ -1,12 +1,12 @@
 -- The tests of a make, part by part.
-use Rattle.std.proofs.Common.{◌≡◌, ℕ, ◌%◌, ◌≤◌, Bool, true, false, cond, not, ◌||◌, eqb, ltb, List, [], ◌∷◌, ◌++◌, Ok, Err, Result, sym, refl, ap, ◌∙◌, subst, arith}
+use Rattle.std.proofs.Common.{◌≡◌, ℕ, ◌%◌, ◌≤◌, not, ◌||◌, eqb, ltb, List, [], ◌∷◌, Ok, Err, Result, sym, ap, ◌∙◌, subst, arith}
 use Rattle.levels.specs.declared.Level.{Level}
 use Rattle.levels.specs.declared.Sizes.{Sizes}
 use Rattle.levels.specs.declared.checks.WorkLengths.{WorkLengths}
 use Rattle.levels.specs.declared.faults.Fault.{Fault}
 use Rattle.levels.specs.declared.faults.Fault.TheVariants.{WrongLength, ShortWork}
-use Rattle.levels.specs.Table.{sizes_of, Lawful}
-use Rattle.levels.specs.Rows.{Row, row, first_of, answer, length_row, work_rows}
+use Rattle.levels.specs.Table.{sizes_of}
+use Rattle.levels.specs.Rows.{Row, row, answer, length_row}
 use Rattle.levels.proofs.Rows.{first_passed, length_passed, bound_passed, last_passed, first_refused}
 use Rattle.keys.specs.declared.checks.Lengths.{Lengths}
 use Rattle.keys.specs.Calls.{size_rows, checked_at}

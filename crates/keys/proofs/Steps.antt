@@ -1,13 +1,11 @@
 -- What the steps of a make say of the seeds.
-use Rattle.std.proofs.Common.{◌≡◌, ℕ, ◌+◌, ◌-◌, ◌*◌, ◌<◌, ◌≤◌, Bool, true, false, eqb, List, [], ◌∷◌, length, take, drop, Ok, Err, Result, sym, refl, ap, ◌∙◌, subst, mul-le-mul_left, arith, length-drop, length-take}
+use Rattle.std.proofs.Common.{◌≡◌, ℕ, ◌+◌, ◌-◌, ◌*◌, ◌<◌, ◌≤◌, true, false, eqb, List, [], ◌∷◌, length, take, drop, Ok, Err, sym, ◌∙◌, mul-le-mul_left, arith, length-drop, length-take}
 use Rattle.std.proofs.lemmas.Bool.{eq-eqb, ne_eqb}
 use Rattle.levels.specs.declared.Sizes.{Sizes}
-use Rattle.levels.specs.declared.faults.Fault.{Fault}
 use Rattle.levels.specs.declared.faults.Fault.TheVariants.{NoUsableSeed}
 use Rattle.levels.specs.Rows.{answer}
 use Rattle.levels.specs.Table.{Lawful}
 use Rattle.algebra.specs.Field.{Ops, Places}
-use Rattle.bits.specs.Vectors.{Matrix}
 use Rattle.bits.specs.Kernels.{independent}
 use Rattle.bits.specs.Search.{first_place}
 use Rattle.bits.proofs.Search.{first_here}

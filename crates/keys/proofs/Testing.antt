@@ -1,8 +1,8 @@
 -- The test of a mixing seed.
-use Rattle.std.proofs.Common.{◌≡◌, ℕ, ◌*◌, ◌<◌, true, false, List, sym, refl, ap, ◌∙◌, subst, arith}
+use Rattle.std.proofs.Common.{◌≡◌, ℕ, ◌*◌, ◌<◌, true, false, List, sym, ap, ◌∙◌, subst, arith}
 use Rattle.bits.specs.Vectors.{Matrix}
 use Rattle.bits.specs.Packed.{matrix}
-use Rattle.bits.specs.Kernels.{Same, Independent, Dependent, independent}
+use Rattle.bits.specs.Kernels.{Same, Dependent, independent}
 use Rattle.bits.proofs.Decision.{dependent_found, independent_found, independent_same}
 use Rattle.bits.proofs.Elimination.{PartDone}
 use Rattle.bits.proofs.Reduction.{injective}

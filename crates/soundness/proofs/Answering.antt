@@ -1,5 +1,5 @@
 -- What rows answer: the first that applies stops, and one that does not is passed.
-use Rattle.std.proofs.Common.{◌≡◌, ℕ, ◌<◌, ◌≤◌, Bool, true, false, cond, not, eqb, List, [], ◌∷◌, ◌++◌, Ok, Err, Result, sym, ap, ◌∙◌, arith}
+use Rattle.std.proofs.Common.{◌≡◌, ℕ, ◌<◌, ◌≤◌, Bool, true, false, cond, eqb, List, [], ◌∷◌, ◌++◌, Ok, Err, Result, sym, ap, ◌∙◌, arith}
 use Rattle.std.proofs.lemmas.Bool.{lt-ltb, le-ltb, ltb-false, eq-eqb, ne_eqb, eqb-true, not_from_true, not_from_false, not-false, cond-true, cond-false}
 use Rattle.levels.specs.declared.faults.Defect.{Defect}
 use Rattle.levels.specs.declared.faults.Fault.{Fault}

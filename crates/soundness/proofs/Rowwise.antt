@@ -4,7 +4,7 @@ use Rattle.std.proofs.lemmas.Nat.{div_below}
 use Rattle.std.proofs.lemmas.List.{get_or-take, get_or-drop}
 use Rattle.std.proofs.lemmas.Bool.{cases_eq, eq-eqb, ne_eqb, or_right}
 use Rattle.bits.specs.Vectors.{◌⊕◌, Vector, weight}
-use Rattle.bits.specs.Packed.{bit_of, vector, matrix, packed, Bytes}
+use Rattle.bits.specs.Packed.{bit_of, vector, matrix, Bytes}
 use Rattle.bits.proofs.Decision.{weight_none, none_weight, weight_same}
 use Rattle.bits.proofs.Packing.{packed_is}
 use Rattle.bits.proofs.Places.{vector_in}

@@ -1,4 +1,4 @@
-use Rattle.std.proofs.Common.{◌≡◌, ℕ, List, map, length, get_or, replicate, sym, refl, ap, ◌∙◌, subst, arith, rules}
+use Rattle.std.proofs.Common.{ℕ, map, sym, refl, ◌∙◌, subst, rules}
 use Rattle.bits.specs.Packed.{vector}
 use Rattle.matrices.specs.Columns.{bits_of}
 use Rattle.polys.specs.Values.{value}

@@ -1,4 +1,4 @@
-use Rattle.std.proofs.Common.{ℕ, ◌-◌, List, [], ◌∷◌, ◌++◌, ap, ◌∙◌, ap₂, arith}
+use Rattle.std.proofs.Common.{ℕ, List, [], ◌∷◌, ◌++◌, ap, ◌∙◌, ap₂, arith}
 use Rattle.soundness.specs.Parts.{words_from}
 use Rattle.soundness.proofs.Numbers.{support_words, goppa_words, monic_set}
 use Rattle.soundness.proofs.read_code.Goals as goal

@@ -1,4 +1,4 @@
-use Rattle.std.proofs.Common.{◌≡◌, ℕ, ◌<◌, cond, length, get_or, sym, ap, ◌∙◌, ap₂, arith}
+use Rattle.std.proofs.Common.{◌≡◌, cond, length, sym, ap, ◌∙◌}
 use Rattle.algebra.specs.Series.{Series}
 use Rattle.polys.specs.Coefs.{coefs}
 use Rattle.polys.specs.Values.{value}

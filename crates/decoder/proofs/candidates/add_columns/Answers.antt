@@ -1,4 +1,4 @@
-use Rattle.std.proofs.Common.{◌≡◌, ℕ, ◌+◌, ◌<◌, cond, length, get_or, sym, refl, ap, ◌∙◌, ap₂, add-one, arith, rules}
+use Rattle.std.proofs.Common.{◌≡◌, cond, length, get_or, sym, ap, ◌∙◌, ap₂, arith}
 use Rattle.algebra.specs.Series.{Series}
 use Rattle.bits.specs.Packed.{vector}
 use Rattle.polys.specs.Coefs.{coefs}

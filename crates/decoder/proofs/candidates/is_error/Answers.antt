@@ -2,7 +2,6 @@ use Rattle.std.proofs.Common.{◌≡◌, length, get_or, sym, refl, ap, ◌∙�
 use Rattle.std.proofs.lemmas.List.{ext_get_or}
 use Rattle.bits.specs.Packed.{vector}
 use Rattle.matrices.specs.Columns.{bits_of}
-use Rattle.decoder.specs.Errors.{ErrorOf}
 use Rattle.decoder.specs.Sums.{column_sum}
 use Rattle.decoder.proofs.Bridge.{sums_are, sums_from}
 use Rattle.decoder.proofs.candidates.is_error.Goals as goal

@@ -1,4 +1,4 @@
-use Rattle.std.proofs.Common.{◌≡◌, ℕ, ◌+◌, cond, sym, refl, ap, ◌∙◌, arith}
+use Rattle.std.proofs.Common.{◌≡◌, ◌+◌, cond, sym, refl, ap, ◌∙◌, arith}
 use Rattle.bits.specs.Vectors.{weight}
 use Rattle.bits.specs.Packed.{vector}
 use Rattle.decoder.proofs.Vectors.{weight_more}

@@ -1,4 +1,4 @@
-use Rattle.std.proofs.Common.{◌≡◌, ℕ, zero, suc, ◌+◌, ◌-◌, ◌*◌, ◌^◌, ◌<◌, Bool, List, sym, ap, ◌∙◌, pow-suc, arith}
+use Rattle.std.proofs.Common.{◌≡◌, ℕ, zero, suc, ◌+◌, ◌-◌, ◌*◌, ◌^◌, ◌<◌, Bool, ap, ◌∙◌, pow-suc, arith}
 use mir.Val.{bool_byte}
 use Rattle.bits.specs.Packed.{vector}
 use Rattle.matrices.specs.Columns.{number_bit}

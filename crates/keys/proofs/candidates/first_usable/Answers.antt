@@ -1,7 +1,6 @@
-use Rattle.std.proofs.Common.{◌≡◌, ℕ, ◌+◌, ◌-◌, ◌*◌, Bool, true, false, List, length, take, drop, sym, ap, ◌∙◌, ap₂, arith, below_more}
+use Rattle.std.proofs.Common.{◌≡◌, ℕ, ◌*◌, List, length, sym, ◌∙◌, ap₂, arith, below_more}
 use Rattle.bits.specs.Vectors.{Matrix}
 use Rattle.bits.specs.Packed.{matrix}
-use Rattle.bits.specs.Kernels.{independent}
 use Rattle.bits.proofs.Elimination.{done_stuck, done_more}
 use Rattle.bits.proofs.Search.{first_is, first_none}
 use Rattle.shuffles.specs.Orders.{order}

@@ -1,4 +1,4 @@
-use Rattle.std.proofs.Common.{◌≡◌, ℕ, ◌*◌, ◌<◌, true, false, length}
+use Rattle.std.proofs.Common.{◌≡◌, ℕ, ◌*◌, ◌<◌, false, length}
 use Rattle.bits.specs.Kernels.{independent}
 use Rattle.bits.specs.Packed.{matrix}
 use Rattle.bits.proofs.Elimination.{PartDone}

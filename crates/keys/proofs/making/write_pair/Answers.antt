@@ -1,4 +1,4 @@
-use Rattle.std.proofs.Common.{◌≡◌, ◌∙◌, arith}
+use Rattle.std.proofs.Common.{◌∙◌, arith}
 use Rattle.bits.specs.Vectors.{Matrix}
 use Rattle.bits.specs.Packed.{matrix}
 use Rattle.keys.specs.Secret.{mixed_by}

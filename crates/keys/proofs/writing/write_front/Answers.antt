@@ -1,4 +1,4 @@
-use Rattle.std.proofs.Common.{◌≡◌, ◌+◌, ap, ◌∙◌, arith}
+use Rattle.std.proofs.Common.{ap, ◌∙◌, arith}
 use Rattle.bits.specs.Packed.{matrix}
 use Rattle.bits.proofs.MatrixBytes.{matrix_bytes_is}
 use Rattle.keys.proofs.writing.write_front.Goals as goal

@@ -1,4 +1,4 @@
-use Rattle.std.proofs.Common.{ℕ, ◌-◌, ◌*◌, arith}
+use Rattle.std.proofs.Common.{◌-◌, arith}
 use Rattle.bits.specs.Packed.{matrix}
 use Rattle.bits.specs.Reduced.{reduced_of}
 use Rattle.bits.proofs.MatrixBytes.{matrix_bytes_is}

@@ -1,4 +1,4 @@
-use Rattle.std.proofs.Common.{◌≡◌, ℕ, ◌-◌, ◌*◌, List, ◌++◌, length, drop, ◌∙◌, ap₂, arith}
+use Rattle.std.proofs.Common.{ℕ, ◌-◌, ◌*◌, List, ◌++◌, drop, ◌∙◌, ap₂, arith}
 use Rattle.sealing.proofs.Tickets.{two_copies}
 use Rattle.keys.proofs.writing.write_rest.Goals as goal
 

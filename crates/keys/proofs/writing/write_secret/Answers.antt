@@ -1,4 +1,4 @@
-use Rattle.std.proofs.Common.{◌≡◌, ℕ, ◌+◌, ◌-◌, ◌*◌, List, ◌++◌, length, take, drop, ap, ◌∙◌, ap₂, append_assoc, arith}
+use Rattle.std.proofs.Common.{ℕ, ◌+◌, ◌-◌, ◌*◌, List, ◌++◌, take, drop, ap, ◌∙◌, ap₂, append_assoc, arith}
 use Rattle.bits.specs.Packed.{matrix}
 use Rattle.bits.specs.Words.{word_bytes}
 use Rattle.bits.specs.Rows.{matrix_bytes}

@@ -1,4 +1,4 @@
-use Rattle.std.proofs.Common.{◌-◌, ltb, get_or, take, sym, ap, ◌∙◌, arith}
+use Rattle.std.proofs.Common.{ltb, get_or, take, sym, ap, ◌∙◌, arith}
 use Rattle.std.proofs.lemmas.Bool.{le-ltb, not_from_false, or_left, or_right}
 use Rattle.bits.proofs.Search.{first_is, first_none}
 use Rattle.shuffles.specs.Orders.{among}
