@@ -9,9 +9,7 @@ use std::path::{Path, PathBuf};
 fn main() {
     let here = PathBuf::from(env::var_os("CARGO_MANIFEST_DIR").expect("cargo sets it"));
     let repo = folder("RATTLE_REPO", &here, "..");
-    let kit = folder("RATTLE_HOME", &here, "/opt/rattle");
     link(&repo.join("target/staticlib/libcapi.a"));
-    link(&kit.join("lib/librattle_c.a"));
     println!("cargo:rerun-if-changed=build.rs");
 }
 

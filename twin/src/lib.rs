@@ -2,19 +2,17 @@
 //! and from nothing of the product.
 //!
 //! `cargo test --lib` tries the twin alone. The tests in `tests/` and the
-//! benchmark run it beside the product, whose static library they need, and one of
-//! them the product's program:
+//! benchmark run it beside the product, whose static library they need, and two of
+//! them the product's programs:
 //!
 //! ```text
-//! rt staticlib capi                                # in the repository
-//! rt check pair_task                               # in the repository
+//! tools/build                                      # in the repository
 //! cargo test                                       # in twin/
 //! cargo run --release --example bench              # in twin/
 //! ```
 //!
 //! The library is looked for in `target/staticlib/` of the repository above this
-//! package, or of the one that `RATTLE_REPO` names, and the kit's own in the
-//! `lib/` of `RATTLE_HOME`, or else of `/opt/rattle`.
+//! package, or of the one that `RATTLE_REPO` names.
 
 pub mod bits;
 pub mod cases;
