@@ -13,14 +13,14 @@ pub fn examples_stand() -> usize
     5
 }
 
-// How many lines the sheet of worked examples has.
+// How many lines the worked examples have.
 fn lines() -> usize
     ensures { result ≡ 9 }
 {
     9
 }
 
-// The number of lines of the whole sheet, all of which stand.
+// The number of lines of all worked examples, all of which stand.
 pub fn sheet_stands() -> usize
     ensures number { result ≡ 9 }
     ensures earlier { Examples }
