@@ -1,12 +1,10 @@
 //! The product's program that makes a pair of keys and seals a ticket to it, run as
 //! a shop and its customer run it: what it prints against the twin, and its refusals.
 
-use std::env;
-use std::fs;
-use std::path::{Path, PathBuf};
-use std::process::{self, Command};
-use std::sync::atomic::{AtomicUsize, Ordering};
+#[path = "common/runs.rs"]
+mod runs;
 
+use runs::{lines, refusal, run, Lines};
 use twin::cases::pairs as outside_pairs;
 use twin::code::Code;
 use twin::hash::{hex, Hash, Kind};
@@ -15,18 +13,8 @@ use twin::make::{self, make};
 use twin::random::Random;
 use twin::seal::{self, seal};
 
-/// How often the program was run: each run has a folder of its own.
-static RUNS: AtomicUsize = AtomicUsize::new(0);
-
 /// The lines that tell what a make is given, of which every run prints all.
 const GIVEN: usize = 4;
-
-/// The program that the product's own check has built.
-fn program() -> PathBuf {
-    let here = Path::new(env!("CARGO_MANIFEST_DIR"));
-    let repo = here.join(env::var_os("RATTLE_REPO").unwrap_or_else(|| "..".into()));
-    repo.join("target/bin/pair_task")
-}
 
 /// What the program is given.
 #[derive(Clone)]
@@ -36,12 +24,6 @@ struct Task {
     mixing_seeds: Vec<u8>,
     decoy_seed: Vec<u8>,
     ticket_seed: Vec<u8>,
-}
-
-type Lines = Vec<(String, String)>;
-
-fn lines(expected: &[(&str, String)]) -> Lines {
-    expected.iter().map(|(name, value)| (name.to_string(), value.clone())).collect()
 }
 
 impl Task {
@@ -67,29 +49,13 @@ impl Task {
 
     /// The `name=value` lines that the program prints.
     fn run(&self) -> Lines {
-        let number = RUNS.fetch_add(1, Ordering::Relaxed);
-        let folder = env::temp_dir().join(format!("pair_task_{}_{number}", process::id()));
-        fs::create_dir_all(&folder).expect("a folder for the files");
-        let files = [
+        let files: [(&str, &[u8]); 4] = [
             ("code_seed", &self.code_seed),
             ("mixing_seeds", &self.mixing_seeds),
             ("decoy_seed", &self.decoy_seed),
             ("ticket_seed", &self.ticket_seed),
         ];
-        for (name, bytes) in files {
-            fs::write(folder.join(name), bytes).expect("a seed's file");
-        }
-        let output = Command::new(program())
-            .arg(self.level)
-            .args(files.map(|(name, _)| name))
-            .current_dir(&folder)
-            .output()
-            .expect("the program runs");
-        fs::remove_dir_all(&folder).expect("the folder goes");
-        assert!(output.status.success(), "{output:?}");
-        let printed = String::from_utf8(output.stdout).expect("text");
-        let pairs = printed.lines().filter_map(|line| line.split_once('='));
-        pairs.map(|(name, value)| (name.to_string(), value.to_string())).collect()
+        run("pair_task", self.level, &files)
     }
 
     /// What it should print, by the twin, with a ticket that is sealed with SHA3-512.
@@ -161,15 +127,6 @@ fn outside_pairs_and_tickets() {
             assert!(printed.ends_with(&ends));
         }
     }
-}
-
-fn refusal(number: u8, layer: &str, place: usize) -> Lines {
-    lines(&[
-        ("answer", number.to_string()),
-        ("layer", layer.to_string()),
-        ("part", "none".to_string()),
-        ("place", place.to_string()),
-    ])
 }
 
 #[test]
