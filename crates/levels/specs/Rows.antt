@@ -1,5 +1,5 @@
 -- The rows of a call's table of refusals: what each tests, and the fault that it answers with.
-use Rattle.std.specs.Prelude.{ℕ, Bool, cond, not, List, [], ◌∷◌, Ok, Err, Result, ◌==◌, nat_lt}
+use Rattle.std.specs.Prelude.{ℕ, Bool, cond, not, List, [], ◌∷◌, length, Ok, Err, Result, ◌==◌, nat_lt}
 use Rattle.levels.specs.declared.Sizes.{Sizes}
 use Rattle.levels.specs.declared.checks.WorkLengths.{WorkLengths}
 use Rattle.levels.specs.declared.faults.Fault.{Fault}
@@ -26,13 +26,26 @@ answer rows = first_of rows tt
 abbrev pub length_row : ℕ → ℕ → ℕ → Row
 length_row buffer is should = row (not (is == should)) (WrongLength buffer)
 
+abbrev pub work_of : List ℕ → List ℕ → List ℕ → WorkLengths
+work_of bytes places positions = record { bytes = length bytes; places = length places; positions = length positions }
+
 -- a work slice is too short: 0 the bytes, 1 the elements, 2 the positions
+abbrev pub short_rows : WorkLengths → WorkLengths → List Row
+short_rows least w =
+    row (nat_lt w.bytes least.bytes) (ShortWork 0)
+    ∷ row (nat_lt w.places least.places) (ShortWork 1)
+    ∷ row (nat_lt w.positions least.positions) (ShortWork 2) ∷ []
+
+-- what a level needs of the work memory
+abbrev pub work_of_level : Sizes → WorkLengths
+work_of_level s = record { bytes = s.work_bytes; places = s.work_places; positions = s.work_places }
+
 abbrev pub work_rows : Sizes → WorkLengths → List Row
-work_rows s w =
-    row (nat_lt w.bytes s.work_bytes) (ShortWork 0)
-    ∷ row (nat_lt w.places s.work_places) (ShortWork 1)
-    ∷ row (nat_lt w.positions s.work_places) (ShortWork 2) ∷ []
+work_rows s w = short_rows (work_of_level s) w
 
 -- the hash takes too little
+abbrev pub small_row : ℕ → ℕ → Row
+small_row least capacity = row (nat_lt capacity least) SmallCapacity
+
 abbrev pub capacity_row : Sizes → ℕ → Row
-capacity_row s capacity = row (nat_lt capacity s.capacity) SmallCapacity
+capacity_row s capacity = small_row s.capacity capacity

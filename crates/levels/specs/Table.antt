@@ -1,5 +1,6 @@
 -- The table of the levels.
 use Rattle.std.specs.Prelude.{◌≡◌, ◌+◌, ◌-◌, ◌*◌, ◌/◌, ◌^◌, ◌<◌, ◌≤◌}
+use Rattle.std.proofs.Common.{arith}
 use Rattle.levels.specs.declared.Level.{Level}
 use Rattle.levels.specs.declared.Level.TheVariants.{Sample, Level128, Level192, Level256}
 use Rattle.levels.specs.declared.Sizes.{Sizes}
@@ -7,13 +8,25 @@ use Rattle.levels.specs.declared.Sizes.{Sizes}
 -- all numbers, level by level
 abbrev pub sizes_of : Level → Sizes
 sizes_of Sample =
-    record { m = 6; n = 56; t = 4; k = 32; rows = 24; vector = 7; body = 3; public_key = 96; secret_key = 256; ticket = 35; capacity = 50; work_bytes = 4096; work_places = 512 }
+    record {
+      m = 6; n = 56; t = 4; k = 32; rows = 24; vector = 7; body = 3; public_key = 96; secret_key = 256; ticket = 35; capacity = 50; work_bytes = 4096; work_places = 512;
+      matrix_rows = omega arith; columns = omega arith; vector_bits = omega arith; body_bits = omega arith; front = omega arith; back = omega arith; code = omega arith; weight = omega arith; corrects = omega arith; field = omega arith; narrow = omega arith; small = omega arith; public_bytes = omega arith; secret_bytes = omega arith; ticket_bytes = omega arith; hashed = omega arith; order = omega arith; vectors = omega arith; mixed = omega arith; elements = omega arith; values = omega arith; steps = omega arith; tests = omega arith
+    }
 sizes_of Level128 =
-    record { m = 13; n = 3904; t = 64; k = 3072; rows = 832; vector = 488; body = 104; public_key = 319488; secret_key = 94528; ticket = 136; capacity = 632; work_bytes = 2097152; work_places = 16384 }
+    record {
+      m = 13; n = 3904; t = 64; k = 3072; rows = 832; vector = 488; body = 104; public_key = 319488; secret_key = 94528; ticket = 136; capacity = 632; work_bytes = 2097152; work_places = 16384;
+      matrix_rows = omega arith; columns = omega arith; vector_bits = omega arith; body_bits = omega arith; front = omega arith; back = omega arith; code = omega arith; weight = omega arith; corrects = omega arith; field = omega arith; narrow = omega arith; small = omega arith; public_bytes = omega arith; secret_bytes = omega arith; ticket_bytes = omega arith; hashed = omega arith; order = omega arith; vectors = omega arith; mixed = omega arith; elements = omega arith; values = omega arith; steps = omega arith; tests = omega arith
+    }
 sizes_of Level192 =
-    record { m = 13; n = 5568; t = 128; k = 3904; rows = 1664; vector = 696; body = 208; public_key = 812032; secret_key = 357568; ticket = 240; capacity = 944; work_bytes = 2097152; work_places = 16384 }
+    record {
+      m = 13; n = 5568; t = 128; k = 3904; rows = 1664; vector = 696; body = 208; public_key = 812032; secret_key = 357568; ticket = 240; capacity = 944; work_bytes = 2097152; work_places = 16384;
+      matrix_rows = omega arith; columns = omega arith; vector_bits = omega arith; body_bits = omega arith; front = omega arith; back = omega arith; code = omega arith; weight = omega arith; corrects = omega arith; field = omega arith; narrow = omega arith; small = omega arith; public_bytes = omega arith; secret_bytes = omega arith; ticket_bytes = omega arith; hashed = omega arith; order = omega arith; vectors = omega arith; mixed = omega arith; elements = omega arith; values = omega arith; steps = omega arith; tests = omega arith
+    }
 sizes_of Level256 =
-    record { m = 13; n = 6592; t = 128; k = 4928; rows = 1664; vector = 824; body = 208; public_key = 1025024; secret_key = 359616; ticket = 240; capacity = 1072; work_bytes = 2097152; work_places = 16384 }
+    record {
+      m = 13; n = 6592; t = 128; k = 4928; rows = 1664; vector = 824; body = 208; public_key = 1025024; secret_key = 359616; ticket = 240; capacity = 1072; work_bytes = 2097152; work_places = 16384;
+      matrix_rows = omega arith; columns = omega arith; vector_bits = omega arith; body_bits = omega arith; front = omega arith; back = omega arith; code = omega arith; weight = omega arith; corrects = omega arith; field = omega arith; narrow = omega arith; small = omega arith; public_bytes = omega arith; secret_bytes = omega arith; ticket_bytes = omega arith; hashed = omega arith; order = omega arith; vectors = omega arith; mixed = omega arith; elements = omega arith; values = omega arith; steps = omega arith; tests = omega arith
+    }
 
 -- how the numbers of a row hang together
 pub record Lawful (s : Sizes) : Type 0 where

@@ -2,8 +2,10 @@
 ghost use Rattle.std.specs.Prelude.{◌≡◌};
 ghost use Rattle.levels.specs.Faults.{report_of, layer_name, part_name};
 
+use std::fmt;
+
 // Why a written key is not sound: the first test that fails, and its place.
-#[derive(Clone, Copy)]
+#[derive(Clone, Copy, Debug, PartialEq, Eq)]
 pub enum Defect {
     Support(usize),
     Coefficient(usize),
@@ -14,7 +16,7 @@ pub enum Defect {
 }
 
 // A refusal, with its place where it has one.
-#[derive(Clone, Copy)]
+#[derive(Clone, Copy, Debug, PartialEq, Eq)]
 pub enum Fault {
     NoLevel,
     NoKey,
@@ -27,7 +29,7 @@ pub enum Fault {
 }
 
 // The layer that refuses.
-#[derive(Clone, Copy)]
+#[derive(Clone, Copy, Debug, PartialEq, Eq)]
 pub enum Layer {
     Call,
     Hatch,
@@ -37,9 +39,8 @@ pub enum Layer {
 }
 
 // The part of a written key that is not sound.
-#[derive(Clone, Copy)]
+#[derive(Clone, Copy, Debug, PartialEq, Eq)]
 pub enum Part {
-    None,
     Support,
     Coefficient,
     Clash,
@@ -48,12 +49,12 @@ pub enum Part {
     Rank,
 }
 
-// A fault in the four values that callers see.
-#[derive(Clone, Copy)]
+// A fault in the four values that callers see. Only a key that is not sound has a part.
+#[derive(Clone, Copy, Debug, PartialEq, Eq)]
 pub struct Report {
     pub number: u8,
     pub layer: Layer,
-    pub part: Part,
+    pub part: Option<Part>,
     pub place: usize,
 }
 
@@ -62,19 +63,19 @@ impl Fault {
         ensures { result ≡ report_of self }
     {
         let (number, layer, part, place) = match self {
-            Fault::NoLevel => (1, Layer::Call, Part::None, 0),
-            Fault::NoKey => (2, Layer::Hatch, Part::None, 0),
-            Fault::WrongLength(buffer) => (3, Layer::Call, Part::None, buffer),
-            Fault::ShortWork(slice) => (4, Layer::Call, Part::None, slice),
-            Fault::SmallCapacity => (5, Layer::Hash, Part::None, 0),
-            Fault::NoUsableSeed(tried) => (6, Layer::Key, Part::None, tried),
-            Fault::Unsound(Defect::Support(at)) => (7, Layer::Key, Part::Support, at),
-            Fault::Unsound(Defect::Coefficient(at)) => (7, Layer::Key, Part::Coefficient, at),
-            Fault::Unsound(Defect::Clash(at)) => (7, Layer::Key, Part::Clash, at),
-            Fault::Unsound(Defect::Zeros(found)) => (7, Layer::Key, Part::Zeros, found),
-            Fault::Unsound(Defect::Matrix(row)) => (7, Layer::Key, Part::Matrix, row),
-            Fault::Unsound(Defect::Rank(rank)) => (7, Layer::Key, Part::Rank, rank),
-            Fault::OutOfForm(line) => (8, Layer::Line, Part::None, line),
+            Fault::NoLevel => (1, Layer::Call, None, 0),
+            Fault::NoKey => (2, Layer::Hatch, None, 0),
+            Fault::WrongLength(buffer) => (3, Layer::Call, None, buffer),
+            Fault::ShortWork(slice) => (4, Layer::Call, None, slice),
+            Fault::SmallCapacity => (5, Layer::Hash, None, 0),
+            Fault::NoUsableSeed(tried) => (6, Layer::Key, None, tried),
+            Fault::Unsound(Defect::Support(at)) => (7, Layer::Key, Some(Part::Support), at),
+            Fault::Unsound(Defect::Coefficient(at)) => (7, Layer::Key, Some(Part::Coefficient), at),
+            Fault::Unsound(Defect::Clash(at)) => (7, Layer::Key, Some(Part::Clash), at),
+            Fault::Unsound(Defect::Zeros(found)) => (7, Layer::Key, Some(Part::Zeros), found),
+            Fault::Unsound(Defect::Matrix(row)) => (7, Layer::Key, Some(Part::Matrix), row),
+            Fault::Unsound(Defect::Rank(rank)) => (7, Layer::Key, Some(Part::Rank), rank),
+            Fault::OutOfForm(line) => (8, Layer::Line, None, line),
         };
         Report {
             number,
@@ -106,7 +107,6 @@ impl Part {
         ensures { result.now ≡ part_name self }
     {
         match self {
-            Part::None => "none",
             Part::Support => "support",
             Part::Coefficient => "coefficient",
             Part::Clash => "clash",
@@ -114,5 +114,36 @@ impl Part {
             Part::Matrix => "matrix",
             Part::Rank => "rank",
         }
+    }
+}
+
+impl fmt::Display for Layer {
+    fn fmt<W: fmt::Write>(&self, f: &mut fmt::Formatter<W>) -> fmt::Result {
+        f.write_str(self.name())
+    }
+}
+
+impl fmt::Display for Part {
+    fn fmt<W: fmt::Write>(&self, f: &mut fmt::Formatter<W>) -> fmt::Result {
+        f.write_str(self.name())
+    }
+}
+
+// The four values as lines.
+impl fmt::Display for Report {
+    fn fmt<W: fmt::Write>(&self, f: &mut fmt::Formatter<W>) -> fmt::Result {
+        let Report {
+            number,
+            layer,
+            part,
+            place,
+        } = self;
+        writeln!(f, "answer={number}")?;
+        writeln!(f, "layer={layer}")?;
+        match part {
+            Some(part) => writeln!(f, "part={part}")?,
+            None => writeln!(f, "part=none")?,
+        }
+        write!(f, "place={place}")
     }
 }

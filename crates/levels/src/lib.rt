@@ -2,18 +2,18 @@
 // refuses, and the guards that clear lent work memory.
 #![tactic(auto)]
 
-ghost use Rattle.std.specs.Prelude.{◌≡◌};
-ghost use Rattle.levels.specs.Names.{level_of};
-ghost use Rattle.levels.specs.Table.{sizes_of, Lawful};
+ghost use Rattle.std.specs.Prelude.{◌≡◌, ◌+◌, ◌-◌, ◌*◌, ◌/◌, ◌^◌, ◌<◌, ◌≤◌};
 
 pub mod checks;
 pub mod faults;
 pub mod guards;
 
+use checks::WorkLengths;
 use faults::Fault;
+use std::str::FromStr;
 
 // A level: the sizes of the code that a key pair is made for. The sample protects nothing.
-#[derive(Clone, Copy)]
+#[derive(Clone, Copy, Debug, PartialEq, Eq)]
 pub enum Level {
     Sample,
     Level128,
@@ -38,13 +38,45 @@ pub struct Sizes {
     pub capacity: usize,
     pub work_bytes: usize,
     pub work_places: usize,
+    pub ghost matrix_rows: { rows ≡ m * t },
+    pub ghost columns: { n ≡ rows + k },
+    pub ghost vector_bits: { n ≡ 8 * vector },
+    pub ghost body_bits: { rows ≡ 8 * body },
+    pub ghost front: { 0 < body },
+    pub ghost back: { body < vector },
+    pub ghost code: { n + t ≤ 2 ^ m },
+    pub ghost weight: { t ≤ n },
+    pub ghost corrects: { 2 ≤ t },
+    pub ghost field: { 0 < m },
+    pub ghost narrow: { m ≤ 16 },
+    pub ghost small: { n < 2 ^ 16 },
+    // The lengths of keys and tickets.
+    pub ghost public_bytes: { public_key ≡ rows * (vector - body) },
+    pub ghost secret_bytes: { secret_key ≡ 2 * n + 2 * t + rows * body + 64 },
+    pub ghost ticket_bytes: { ticket ≡ 32 + body },
+    pub ghost hashed: { capacity ≡ 40 + vector + body },
+    // What the work memory has room for: a vector's order; two vectors and a body; HP.
+    pub ghost order: { n ≤ work_places },
+    pub ghost vectors: { 2 * vector + body ≤ work_bytes },
+    pub ghost mixed: { rows * vector ≤ work_bytes },
+    // All elements, g and a column.
+    pub ghost elements: { 2 ^ m + (t + 1) + t ≤ work_places },
+    // g, the support, a syndrome, a locator and its values or the steps to it.
+    pub ghost values: { t + 1 + n + (t + 2 * (t / 2 + 1)) + n ≤ work_places },
+    pub ghost steps: { t + 1 + n + (t + 2 * (t / 2 + 1)) + 17 * (t + 1) ≤ work_places },
+    // g, a column, the support and the values there.
+    pub ghost tests: { (t + 1) + t + (n + n) ≤ work_places },
 }
 
-impl Level {
-    // The level that a text names.
-    pub fn from_name(name: &str) -> Result<Level, Fault>
-        ensures { result ≡ level_of name.now }
-    {
+// The level that a text names.
+impl FromStr for Level {
+    ghost use Rattle.levels.specs.Names.{level_of};
+
+    type Err = Fault;
+
+    ghost from_str_gives = { λ name answer. answer ≡ level_of name };
+
+    fn from_str(name: &str) -> Result<Level, Fault> {
         match name {
             "sample" => Ok(Level::Sample),
             "128" => Ok(Level::Level128),
@@ -53,6 +85,10 @@ impl Level {
             _ => Err(Fault::NoLevel),
         }
     }
+}
+
+impl Level {
+    ghost use Rattle.levels.specs.Table.{sizes_of, Lawful};
 
     // The level's row in the table.
     pub fn sizes(self) -> Sizes
@@ -120,6 +156,21 @@ impl Level {
                 work_bytes: 2097152,
                 work_places: 16384,
             },
+        }
+    }
+}
+
+impl Sizes {
+    ghost use Rattle.levels.specs.Rows.{work_of_level};
+
+    // What the level needs of the work memory: as many positions as elements.
+    pub fn work(&self) -> WorkLengths
+        ensures { result ≡ work_of_level self.now }
+    {
+        WorkLengths {
+            bytes: self.work_bytes,
+            places: self.work_places,
+            positions: self.work_places,
         }
     }
 }

@@ -45,13 +45,10 @@ pub record Sealed (s : Sizes) (rule : Rule) (public seed ticket key : List ℕ) 
   pub seals : Seals s rule (public_matrix s public) (seed_vector s seed) ticket
   pub opens : key ≡ key_of s rule (seed_vector s seed) ticket
 
--- the lengths of the buffers and of the work memory
+-- the lengths of the buffers
 abbrev pub lengths_of : List ℕ → List ℕ → List ℕ → List ℕ → Lengths
 lengths_of public seed ticket key =
     record { public_key = length public; ticket_seed = length seed; ticket = length ticket; key = length key }
-
-abbrev pub work_of : List ℕ → List ℕ → List ℕ → WorkLengths
-work_of bytes places positions = record { bytes = length bytes; places = length places; positions = length positions }
 
 -- an accepted seal at the level that was named
 abbrev pub SealedAt : Result Level Fault → Rule → List ℕ → List ℕ → List ℕ → List ℕ → Type 0

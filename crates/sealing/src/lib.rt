@@ -3,18 +3,15 @@
 
 ghost use Rattle.std.specs.Prelude.{◌≡◌, ℕ, ◌+◌, ◌-◌, ◌*◌, ◌^◌, ◌<◌, ◌≤◌, [], ◌++◌, length, Ok, Err, codes};
 ghost use Rattle.levels.specs.Names.{level_of};
-ghost use Rattle.levels.specs.Rows.{answer};
-ghost use Rattle.levels.specs.Table.{Lawful};
+ghost use Rattle.levels.specs.Rows.{answer, work_of};
 ghost use Rattle.levels.specs.Work.{Cleared};
-ghost use Rattle.bits.specs.Packed.{vector, packed};
-ghost use Rattle.sealing.specs.Tickets.{head_of, body_of, Seals, key_of};
-ghost use Rattle.sealing.specs.Calls.{seal_rows, checked_at, accepted, public_matrix, Sealed, SealedAt, lengths_of, work_of};
+ghost use Rattle.sealing.specs.Calls.{seal_rows, checked_at, accepted, Sealed, SealedAt, lengths_of};
 
 use hashes::Hash;
 use hashes::labelled::digest;
 use levels::checks::{WorkLengths, check_capacity, check_work};
 use levels::faults::Fault;
-use levels::guards::{BytesGuard, Place, PlacesGuard, Position, PositionsGuard};
+use levels::guards::{BytesGuard, PlacesGuard, Position, PositionsGuard, Work};
 use levels::{Level, Sizes};
 
 // The lengths of the buffers of a seal, in their order.
@@ -47,15 +44,15 @@ fn check_rows(
     if buffers.key != 32 {
         return Err(Fault::WrongLength(3));
     }
-    check_work(sizes, work)?;
-    check_capacity(sizes, capacity)
+    check_work(sizes.work(), work)?;
+    check_capacity(sizes.capacity, capacity)
 }
 
 // The level's sizes, or the first refusal that applies.
 fn check(level: &str, buffers: Lengths, work: WorkLengths, capacity: usize) -> Result<Sizes, Fault>
     ensures { result ≡ checked_at (level_of level.now) buffers work capacity }
 {
-    let sizes = Level::from_name(level)?.sizes();
+    let sizes = level.parse::<Level>()?.sizes();
     check_rows(&sizes, buffers, work, capacity)?;
     Ok(sizes)
 }
@@ -84,25 +81,6 @@ pub fn write_key<H: Hash>(hash: &mut H, e: &[u8], ticket: &[u8], key: &mut [u8; 
     digest(hash, b"PALOMAHH", e, ticket, key);
 }
 
-// Writes the body of a ticket for a vector and the ticket's head. The work memory for a second
-// vector and for positions comes in with any content.
-fn write_body(
-    sizes: &Sizes,
-    public_key: &[u8],
-    head: &[u8; 32],
-    e: &[u8],
-    permuted: &mut [u8],
-    positions: &mut [Position],
-    body: &mut [u8],
-)
-    requires sizes { (Lawful sizes.now) × ((length public_key.now ≡ sizes.now.public_key) × (length body.old ≡ sizes.now.body)) }
-    requires vectors { (length e.now ≡ sizes.now.vector) × ((length permuted.old ≡ sizes.now.vector) × (length positions.old ≡ sizes.now.n)) }
-    ensures { body.new ≡ body_of sizes.now (public_matrix sizes.now public_key.now) head.now (vector e.now) }
-{
-    shuffles::perm_by(positions, head, e, permuted);
-    matrices::systematic_product(public_key, permuted, body);
-}
-
 // Writes the parts of a ticket one after the other.
 fn join(head: &[u8; 32], body: &[u8], ticket: &mut [u8])
     requires { length ticket.old ≡ 32 + length body.now }
@@ -112,62 +90,83 @@ fn join(head: &[u8; 32], body: &[u8], ticket: &mut [u8])
     ticket[32..].copy_from_slice(body);
 }
 
-// Writes the ticket for a vector, and leaves the hash as start does.
-fn write_ticket<H: Hash>(
-    sizes: &Sizes,
-    public_key: &[u8],
-    e: &[u8],
-    permuted: &mut [u8],
-    body: &mut [u8],
-    positions: &mut [Position],
-    hash: &mut H,
-    ticket: &mut [u8],
-)
-    requires sizes { (Lawful sizes.now) × ((length public_key.now ≡ sizes.now.public_key) × ((length ticket.old ≡ sizes.now.ticket) × (length body.old ≡ sizes.now.body))) }
-    requires vectors { (length e.now ≡ sizes.now.vector) × ((length permuted.old ≡ sizes.now.vector) × (length positions.old ≡ sizes.now.n)) }
-    requires capacity { sizes.now.capacity ≤ H.Hash.capacity hash.old }
-    ensures wrote { Seals sizes.now (H.Hash.rule hash.old) (public_matrix sizes.now public_key.now) (vector e.now) ticket.new }
-    ensures fresh { H.Hash.left hash.new ≡ H.Hash.capacity hash.old }
-    ensures ruled { H.Hash.outcome hash.new ≡ H.Hash.rule hash.old }
-    ensures same { H.Hash.rule hash.new ≡ H.Hash.rule hash.old }
-    ensures kept { H.Hash.capacity hash.new ≡ H.Hash.capacity hash.old }
-{
-    let mut head = [0; 32];
-    write_head(hash, e, &mut head);
-    write_body(sizes, public_key, &head, e, permuted, positions, body);
-    join(&head, body, ticket);
+// What a seal writes in the work memory from a vector, over any content: its permutation, the order
+// of the permutation, and the body of a ticket.
+#[derive(Drop)]
+struct Parts<'a> {
+    sizes: Sizes,
+    permuted: &'a mut [u8],
+    body: &'a mut [u8],
+    order: &'a mut [Position],
+    ghost vector: { length permuted.now ≡ sizes.vector },
+    ghost back: { length body.now ≡ sizes.body },
+    ghost positions: { length order.now ≡ sizes.n },
 }
 
-// Seals the seed's error vector, in parts of the work memory with any content.
-fn seal_parts<H: Hash>(
-    sizes: &Sizes,
-    public_key: &[u8],
-    ticket_seed: &[u8],
-    ticket: &mut [u8],
-    key: &mut [u8],
-    hash: &mut H,
-    e: &mut [u8],
-    permuted: &mut [u8],
-    body: &mut [u8],
-    positions: &mut [Position],
-)
-    requires sizes { (Lawful sizes.now) × ((length public_key.now ≡ sizes.now.public_key) × (length ticket_seed.now ≡ 32)) }
-    requires outputs { (length ticket.old ≡ sizes.now.ticket) × ((length key.old ≡ 32) × (length body.old ≡ sizes.now.body)) }
-    requires vectors { (length e.old ≡ sizes.now.vector) × ((length permuted.old ≡ sizes.now.vector) × (length positions.old ≡ sizes.now.n)) }
-    requires capacity { sizes.now.capacity ≤ H.Hash.capacity hash.old }
-    ensures sealed { Sealed sizes.now (H.Hash.rule hash.old) public_key.now ticket_seed.now ticket.new key.new }
-    ensures fresh { H.Hash.left hash.new ≡ H.Hash.capacity hash.old }
-    ensures ruled { H.Hash.outcome hash.new ≡ H.Hash.rule hash.old }
-    ensures same { H.Hash.rule hash.new ≡ H.Hash.rule hash.old }
-    ensures kept { H.Hash.capacity hash.new ≡ H.Hash.capacity hash.old }
-{
-    shuffles::error_vector(positions, sizes.t, ticket_seed, e);
-    write_ticket(
-        sizes, public_key, e, permuted, body, positions, hash, ticket,
-    );
-    let mut made = [0; 32];
-    write_key(hash, e, ticket, &mut made);
-    key.copy_from_slice(&made);
+impl Parts<'_> {
+    ghost use Rattle.bits.specs.Packed.{vector, packed};
+    ghost use Rattle.sealing.specs.Tickets.{body_of, Seals};
+    ghost use Rattle.sealing.specs.Calls.{public_matrix, Sealed};
+
+    // Writes the body of the ticket for a vector and the ticket's head.
+    fn write_body(&mut self, public_key: &[u8], e: &[u8], head: &[u8; 32])
+        requires { (length public_key.now ≡ self.old.sizes.public_key) × (length e.now ≡ self.old.sizes.vector) }
+        ensures body { self.new.body.now ≡ body_of self.old.sizes (public_matrix self.old.sizes public_key.now) head.now (vector e.now) }
+        ensures same { self.new.sizes ≡ self.old.sizes }
+    {
+        shuffles::perm_by(self.order, head, e, self.permuted);
+        matrices::systematic_product(public_key, self.permuted, self.body);
+    }
+
+    // Writes the ticket for a vector, and leaves the hash as start does.
+    fn write_ticket<H: Hash>(
+        &mut self,
+        public_key: &[u8],
+        e: &[u8],
+        hash: &mut H,
+        ticket: &mut [u8],
+    )
+        requires inputs { (length public_key.now ≡ self.old.sizes.public_key) × (length e.now ≡ self.old.sizes.vector) }
+        requires output { length ticket.old ≡ self.old.sizes.ticket }
+        requires capacity { self.old.sizes.capacity ≤ H.Hash.capacity hash.old }
+        ensures wrote { Seals self.old.sizes (H.Hash.rule hash.old) (public_matrix self.old.sizes public_key.now) (vector e.now) ticket.new }
+        ensures fresh { H.Hash.left hash.new ≡ H.Hash.capacity hash.old }
+        ensures ruled { H.Hash.outcome hash.new ≡ H.Hash.rule hash.old }
+        ensures same { H.Hash.rule hash.new ≡ H.Hash.rule hash.old }
+        ensures kept { H.Hash.capacity hash.new ≡ H.Hash.capacity hash.old }
+    {
+        let mut head = [0; 32];
+        write_head(hash, e, &mut head);
+        self.write_body(public_key, e, &head);
+        join(&head, self.body, ticket);
+    }
+
+    // Seals the seed's error vector.
+    fn seal<H: Hash>(
+        &mut self,
+        public_key: &[u8],
+        ticket_seed: &[u8],
+        ticket: &mut [u8],
+        key: &mut [u8],
+        hash: &mut H,
+        e: &mut [u8],
+    )
+        requires inputs { (length public_key.now ≡ self.old.sizes.public_key) × (length ticket_seed.now ≡ 32) }
+        requires outputs { (length ticket.old ≡ self.old.sizes.ticket) × (length key.old ≡ 32) }
+        requires vector { length e.old ≡ self.old.sizes.vector }
+        requires capacity { self.old.sizes.capacity ≤ H.Hash.capacity hash.old }
+        ensures sealed { Sealed self.old.sizes (H.Hash.rule hash.old) public_key.now ticket_seed.now ticket.new key.new }
+        ensures fresh { H.Hash.left hash.new ≡ H.Hash.capacity hash.old }
+        ensures ruled { H.Hash.outcome hash.new ≡ H.Hash.rule hash.old }
+        ensures same { H.Hash.rule hash.new ≡ H.Hash.rule hash.old }
+        ensures kept { H.Hash.capacity hash.new ≡ H.Hash.capacity hash.old }
+    {
+        shuffles::error_vector(self.order, self.sizes.t, ticket_seed, e);
+        self.write_ticket(public_key, e, hash, ticket);
+        let mut made = [0; 32];
+        write_key(hash, e, ticket, &mut made);
+        key.copy_from_slice(&made);
+    }
 }
 
 // Seals in the work memory, once the tests have passed.
@@ -181,7 +180,7 @@ fn seal_checked<H: Hash>(
     bytes: &mut [u8],
     positions: &mut [Position],
 )
-    requires sizes { (Lawful sizes.now) × ((length public_key.now ≡ sizes.now.public_key) × (length ticket_seed.now ≡ 32)) }
+    requires inputs { (length public_key.now ≡ sizes.now.public_key) × (length ticket_seed.now ≡ 32) }
     requires outputs { (length ticket.old ≡ sizes.now.ticket) × (length key.old ≡ 32) }
     requires work { (sizes.now.work_bytes ≤ length bytes.old) × (sizes.now.work_places ≤ length positions.old) }
     requires capacity { sizes.now.capacity ≤ H.Hash.capacity hash.old }
@@ -193,20 +192,13 @@ fn seal_checked<H: Hash>(
 {
     let (e, rest) = bytes.split_at_mut(sizes.vector);
     let (permuted, rest) = rest.split_at_mut(sizes.vector);
-    let body = &mut rest[0..sizes.body];
-    let order = &mut positions[0..sizes.n];
-    seal_parts(
-        sizes,
-        public_key,
-        ticket_seed,
-        ticket,
-        key,
-        hash,
-        e,
+    let mut parts = Parts {
+        sizes: *sizes,
         permuted,
-        body,
-        order,
-    );
+        body: &mut rest[..sizes.body],
+        order: &mut positions[..sizes.n],
+    };
+    parts.seal(public_key, ticket_seed, ticket, key, hash, e);
 }
 
 // Tests, and then seals.
@@ -217,11 +209,9 @@ fn seal_within<H: Hash>(
     ticket: &mut [u8],
     key: &mut [u8],
     hash: &mut H,
-    bytes: &mut [u8],
-    places: usize,
-    positions: &mut [Position],
+    work: &mut Work<'_>,
 ) -> Result<(), Fault>
-    ensures answer { result ≡ accepted (checked_at (level_of level.now) (lengths_of public_key.now ticket_seed.now ticket.old key.old) (record { bytes = length bytes.entry.now; places = places; positions = length positions.old }) (H.Hash.capacity hash.old)) }
+    ensures answer { result ≡ accepted (checked_at (level_of level.now) (lengths_of public_key.now ticket_seed.now ticket.old key.old) (work_of work.old.bytes.now work.old.places.now work.old.positions.now) (H.Hash.capacity hash.old)) }
     ensures gives { elim result [ Ok _ ↦ SealedAt (level_of level.now) (H.Hash.rule hash.old) public_key.now ticket_seed.now ticket.new key.new × (H.Hash.left hash.new ≡ H.Hash.capacity hash.old) × (H.Hash.outcome hash.new ≡ H.Hash.rule hash.old) | Err _ ↦ (ticket.new ≡ ticket.old) × (key.new ≡ key.old) × (hash.new ≡ hash.old) ] }
     ensures same { H.Hash.rule hash.new ≡ H.Hash.rule hash.old }
     ensures kept { H.Hash.capacity hash.new ≡ H.Hash.capacity hash.old }
@@ -232,12 +222,7 @@ fn seal_within<H: Hash>(
         ticket: ticket.len(),
         key: key.len(),
     };
-    let work = WorkLengths {
-        bytes: bytes.len(),
-        places,
-        positions: positions.len(),
-    };
-    let sizes = check(level, buffers, work, hash.capacity())?;
+    let sizes = check(level, buffers, work.lengths(), hash.capacity())?;
     seal_checked(
         &sizes,
         public_key,
@@ -245,8 +230,8 @@ fn seal_within<H: Hash>(
         ticket,
         key,
         hash,
-        bytes,
-        positions,
+        &mut work.bytes[..],
+        &mut work.positions[..],
     );
     Ok(())
 }
@@ -260,21 +245,19 @@ pub fn seal<H: Hash>(
     ticket: &mut [u8],
     key: &mut [u8],
     hash: &mut H,
-    bytes: &mut [u8],
-    places: &mut [Place],
-    positions: &mut [Position],
+    work: &mut Work<'_>,
 ) -> Result<(), Fault>
-    ensures answer { result ≡ accepted (checked_at (level_of level.now) (lengths_of public_key.now ticket_seed.now ticket.old key.old) (work_of bytes.old places.old positions.old) (H.Hash.capacity hash.old)) }
+    ensures answer { result ≡ accepted (checked_at (level_of level.now) (lengths_of public_key.now ticket_seed.now ticket.old key.old) (work_of work.old.bytes.now work.old.places.now work.old.positions.now) (H.Hash.capacity hash.old)) }
     ensures gives { elim result [ Ok _ ↦ SealedAt (level_of level.now) (H.Hash.rule hash.old) public_key.now ticket_seed.now ticket.new key.new × (H.Hash.left hash.new ≡ H.Hash.capacity hash.old) × (H.Hash.outcome hash.new ≡ H.Hash.rule hash.old) | Err _ ↦ (ticket.new ≡ ticket.old) × (key.new ≡ key.old) × (hash.new ≡ hash.old) ] }
     ensures same { H.Hash.rule hash.new ≡ H.Hash.rule hash.old }
     ensures kept { H.Hash.capacity hash.new ≡ H.Hash.capacity hash.old }
-    ensures bytes { Cleared bytes.old bytes.new }
-    ensures places { Cleared places.old places.new }
-    ensures positions { Cleared positions.old positions.new }
+    ensures bytes { Cleared work.old.bytes.now work.new.bytes.now }
+    ensures places { Cleared work.old.places.now work.new.places.now }
+    ensures positions { Cleared work.old.positions.now work.new.positions.now }
 {
-    let b = BytesGuard { bytes };
-    let e = PlacesGuard { places };
-    let p = PositionsGuard { positions };
+    let b = BytesGuard { bytes: &mut work.bytes[..] };
+    let e = PlacesGuard { places: &mut work.places[..] };
+    let p = PositionsGuard { positions: &mut work.positions[..] };
     seal_within(
         level,
         public_key,
@@ -282,8 +265,10 @@ pub fn seal<H: Hash>(
         ticket,
         key,
         hash,
-        &mut b.bytes[..],
-        e.places.len(),
-        &mut p.positions[..],
+        &mut Work {
+            bytes: &mut b.bytes[..],
+            places: &mut e.places[..],
+            positions: &mut p.positions[..],
+        },
     )
 }

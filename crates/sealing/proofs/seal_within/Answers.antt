@@ -1,5 +1,6 @@
-use Rattle.std.proofs.Common.{◌≡◌, length, Ok, sym, ap, ◌∙◌}
+use Rattle.std.proofs.Common.{◌≡◌, Ok, sym, ap, ap₂, ◌∙◌}
 use Rattle.levels.specs.declared.checks.WorkLengths.{WorkLengths}
+use Rattle.levels.specs.Rows.{work_of}
 use Rattle.levels.specs.Names.{level_of}
 use Rattle.sealing.specs.declared.Lengths.{Lengths}
 use Rattle.sealing.specs.Calls.{checked_at, accepted, lengths_of}
@@ -9,13 +10,13 @@ use Rattle.sealing.proofs.seal_within.Goals as goal
 pub seal_checked-requires : goal.seal_checked-requires
 seal_checked-requires g c =
     let b : Lengths = lengths_of c.args.public_key.now c.args.ticket_seed.now c.args.ticket.now c.args.key.now in
-    let w : WorkLengths = record { bytes = length c.args.bytes.now; places = c.args.places; positions = length c.args.positions.now } in
+    let w : WorkLengths = work_of c.args.work.now.bytes.now c.args.work.now.places.now c.args.work.now.positions.now in
     let n = g.H.Hash.capacity c.args.hash.now in
     let e : checked_at (level_of c.args.level.now) b w n ≡ Ok c.in_ok-sizes.sizes =
-    ap (λ k. checked_at (level_of c.args.level.now) b w k) (sym c.capacity.ensures) ∙ (sym c.check.ensures ∙ c.in_ok-sizes.was) in
+    ap₂ (λ v k. checked_at (level_of c.args.level.now) b v k) (sym c.lengths.ensures) (sym c.capacity.ensures) ∙ (sym c.check.ensures ∙ c.in_ok-sizes.was) in
     let f = fits (level_of c.args.level.now) c.in_ok-sizes.sizes b w n e in
     record {
-      sizes = (f.lawful, (f.public, f.seed));
+      inputs = (f.public, f.seed);
       outputs = (f.ticket, f.key);
       work = (f.bytes, f.positions);
       capacity = f.hash;
@@ -24,10 +25,10 @@ seal_checked-requires g c =
 pub returns : goal.returns
 returns g c =
     let b : Lengths = lengths_of c.args.public_key.now c.args.ticket_seed.now c.args.ticket.now c.args.key.now in
-    let w : WorkLengths = record { bytes = length c.args.bytes.now; places = c.args.places; positions = length c.args.positions.now } in
+    let w : WorkLengths = work_of c.args.work.now.bytes.now c.args.work.now.places.now c.args.work.now.positions.now in
     let n = g.H.Hash.capacity c.args.hash.now in
     let e : checked_at (level_of c.args.level.now) b w n ≡ Ok c.in_ok-sizes.sizes =
-    ap (λ k. checked_at (level_of c.args.level.now) b w k) (sym c.capacity.ensures) ∙ (sym c.check.ensures ∙ c.in_ok-sizes.was) in
+    ap₂ (λ v k. checked_at (level_of c.args.level.now) b v k) (sym c.lengths.ensures) (sym c.capacity.ensures) ∙ (sym c.check.ensures ∙ c.in_ok-sizes.was) in
     record {
       answer = sym (ap accepted e);
       gives = (
