@@ -37,14 +37,14 @@ fn check_rows(sizes: &Sizes, buffers: Lengths, work: WorkLengths) -> Result<(), 
     if buffers.secret_key != sizes.secret_key {
         return Err(Fault::WrongLength(4));
     }
-    check_work(sizes, work)
+    check_work(sizes.work(), work)
 }
 
 // The level, or the first refusal that applies.
 pub fn check(level: &str, buffers: Lengths, work: WorkLengths) -> Result<Level, Fault>
     ensures { result ≡ checked_at (level_of level.now) buffers work }
 {
-    let level = Level::from_name(level)?;
+    let level = level.parse::<Level>()?;
     check_rows(&level.sizes(), buffers, work)?;
     Ok(level)
 }

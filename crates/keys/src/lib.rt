@@ -6,7 +6,7 @@ ghost use Rattle.std.specs.Prelude.{◌≡◌, ◌≤◌, length, Ok, Err};
 ghost use Rattle.levels.specs.Names.{level_of};
 ghost use Rattle.levels.specs.Table.{sizes_of};
 ghost use Rattle.levels.specs.Work.{Cleared};
-ghost use Rattle.sealing.specs.Calls.{work_of};
+ghost use Rattle.levels.specs.Rows.{work_of};
 ghost use Rattle.keys.specs.Calls.{lengths_of, checked_at, tried_at, MadeAt};
 
 pub mod candidates;
@@ -18,9 +18,8 @@ use checks::{Lengths, check};
 use field64::element::E64;
 use field8192::element::E8192;
 use levels::Level;
-use levels::checks::WorkLengths;
 use levels::faults::Fault;
-use levels::guards::{BytesGuard, Place, PlacesGuard, Position, PositionsGuard};
+use levels::guards::{BytesGuard, PlacesGuard, PositionsGuard, Work};
 use making::make_with;
 
 // Makes a pair over the field of a level, once the tests have passed.
@@ -31,12 +30,10 @@ fn make_at(
     decoy_seed: &[u8],
     public_key: &mut [u8],
     secret_key: &mut [u8],
-    bytes: &mut [u8],
-    places: &mut [Place],
-    positions: &mut [Position],
+    work: &mut Work<'_>,
 ) -> Result<(), Fault>
     requires seeds { (length code_seed.now ≡ 32) × (length decoy_seed.now ≡ 32) }
-    requires work { ((sizes_of level).work_bytes ≤ length bytes.old) × (((sizes_of level).work_places ≤ length places.old) × ((sizes_of level).work_places ≤ length positions.old)) }
+    requires work { ((sizes_of level).work_bytes ≤ length work.old.bytes.now) × (((sizes_of level).work_places ≤ length work.old.places.now) × ((sizes_of level).work_places ≤ length work.old.positions.now)) }
     requires keys { (length public_key.old ≡ (sizes_of level).public_key) × (length secret_key.old ≡ (sizes_of level).secret_key) }
     ensures answer { result ≡ tried_at (Ok level) code_seed.now mixing_seeds.now }
     ensures gives { elim result [ Ok _ ↦ MadeAt (Ok level) code_seed.now mixing_seeds.now decoy_seed.now public_key.new secret_key.new | Err _ ↦ (public_key.new ≡ public_key.old) × (secret_key.new ≡ secret_key.old) ] }
@@ -50,9 +47,9 @@ fn make_at(
             decoy_seed,
             public_key,
             secret_key,
-            bytes,
-            places,
-            positions,
+            &mut work.bytes[..],
+            &mut work.places[..],
+            &mut work.positions[..],
         ),
         Level::Level128 | Level::Level192 | Level::Level256 => make_with::<E8192>(
             &sizes,
@@ -61,9 +58,9 @@ fn make_at(
             decoy_seed,
             public_key,
             secret_key,
-            bytes,
-            places,
-            positions,
+            &mut work.bytes[..],
+            &mut work.places[..],
+            &mut work.positions[..],
         ),
     }
 }
@@ -76,11 +73,9 @@ fn make_within(
     decoy_seed: &[u8],
     public_key: &mut [u8],
     secret_key: &mut [u8],
-    bytes: &mut [u8],
-    places: &mut [Place],
-    positions: &mut [Position],
+    work: &mut Work<'_>,
 ) -> Result<(), Fault>
-    ensures answer { result ≡ tried_at (checked_at (level_of level.now) (lengths_of code_seed.now mixing_seeds.now decoy_seed.now public_key.old secret_key.old) (work_of bytes.old places.old positions.old)) code_seed.now mixing_seeds.now }
+    ensures answer { result ≡ tried_at (checked_at (level_of level.now) (lengths_of code_seed.now mixing_seeds.now decoy_seed.now public_key.old secret_key.old) (work_of work.old.bytes.now work.old.places.now work.old.positions.now)) code_seed.now mixing_seeds.now }
     ensures gives { elim result [ Ok _ ↦ MadeAt (level_of level.now) code_seed.now mixing_seeds.now decoy_seed.now public_key.new secret_key.new | Err _ ↦ (public_key.new ≡ public_key.old) × (secret_key.new ≡ secret_key.old) ] }
 {
     let buffers = Lengths {
@@ -90,12 +85,7 @@ fn make_within(
         public_key: public_key.len(),
         secret_key: secret_key.len(),
     };
-    let work = WorkLengths {
-        bytes: bytes.len(),
-        places: places.len(),
-        positions: positions.len(),
-    };
-    let level = check(level, buffers, work)?;
+    let level = check(level, buffers, work.lengths())?;
     make_at(
         level,
         code_seed,
@@ -103,9 +93,7 @@ fn make_within(
         decoy_seed,
         public_key,
         secret_key,
-        bytes,
-        places,
-        positions,
+        work,
     )
 }
 
@@ -119,19 +107,17 @@ pub fn make(
     decoy_seed: &[u8],
     public_key: &mut [u8],
     secret_key: &mut [u8],
-    bytes: &mut [u8],
-    places: &mut [Place],
-    positions: &mut [Position],
+    work: &mut Work<'_>,
 ) -> Result<(), Fault>
-    ensures answer { result ≡ tried_at (checked_at (level_of level.now) (lengths_of code_seed.now mixing_seeds.now decoy_seed.now public_key.old secret_key.old) (work_of bytes.old places.old positions.old)) code_seed.now mixing_seeds.now }
+    ensures answer { result ≡ tried_at (checked_at (level_of level.now) (lengths_of code_seed.now mixing_seeds.now decoy_seed.now public_key.old secret_key.old) (work_of work.old.bytes.now work.old.places.now work.old.positions.now)) code_seed.now mixing_seeds.now }
     ensures gives { elim result [ Ok _ ↦ MadeAt (level_of level.now) code_seed.now mixing_seeds.now decoy_seed.now public_key.new secret_key.new | Err _ ↦ (public_key.new ≡ public_key.old) × (secret_key.new ≡ secret_key.old) ] }
-    ensures bytes { Cleared bytes.old bytes.new }
-    ensures places { Cleared places.old places.new }
-    ensures positions { Cleared positions.old positions.new }
+    ensures bytes { Cleared work.old.bytes.now work.new.bytes.now }
+    ensures places { Cleared work.old.places.now work.new.places.now }
+    ensures positions { Cleared work.old.positions.now work.new.positions.now }
 {
-    let b = BytesGuard { bytes };
-    let e = PlacesGuard { places };
-    let p = PositionsGuard { positions };
+    let b = BytesGuard { bytes: &mut work.bytes[..] };
+    let e = PlacesGuard { places: &mut work.places[..] };
+    let p = PositionsGuard { positions: &mut work.positions[..] };
     make_within(
         level,
         code_seed,
@@ -139,8 +125,10 @@ pub fn make(
         decoy_seed,
         public_key,
         secret_key,
-        &mut b.bytes[..],
-        &mut e.places[..],
-        &mut p.positions[..],
+        &mut Work {
+            bytes: &mut b.bytes[..],
+            places: &mut e.places[..],
+            positions: &mut p.positions[..],
+        },
     )
 }
