@@ -1,5 +1,5 @@
 -- What the C interface answers: refusals as numbers, and which hash a kind is.
-use Rattle.std.specs.Prelude.{◌≡◌, ℕ, ◌-◌, ◌*◌, cond, List, [], ◌∷◌, ◌++◌, length, Ok, Err, Result, ◌==◌, nat_lt}
+use Rattle.std.specs.Prelude.{◌≡◌, ℕ, ◌-◌, ◌*◌, cond, List, [], ◌∷◌, ◌++◌, length, Ok, Err, Result, Option, Some, None, ◌==◌, nat_lt}
 use Rattle.bits.specs.Packed.{vector, packed}
 use Rattle.levels.specs.Faults.{report_of}
 use Rattle.levels.specs.declared.faults.Fault.{Fault}
@@ -23,14 +23,14 @@ code_of_layer layer.Hash = 3
 code_of_layer layer.Key = 4
 code_of_layer layer.Line = 5
 
-abbrev pub code_of_part : Part → ℕ
-code_of_part part.None = 0
-code_of_part part.Support = 1
-code_of_part part.Coefficient = 2
-code_of_part part.Clash = 3
-code_of_part part.Zeros = 4
-code_of_part part.Matrix = 5
-code_of_part part.Rank = 6
+abbrev pub code_of_part : Option Part → ℕ
+code_of_part None = 0
+code_of_part (Some part.Support) = 1
+code_of_part (Some part.Coefficient) = 2
+code_of_part (Some part.Clash) = 3
+code_of_part (Some part.Zeros) = 4
+code_of_part (Some part.Matrix) = 5
+code_of_part (Some part.Rank) = 6
 
 -- number, layer, part and place of an answer, all zero for an acceptance
 abbrev pub told : Result (Unit {0}) Fault → List ℕ

@@ -6,62 +6,43 @@ ghost use Rattle.std.specs.Prelude.{◌≡◌, ◌*◌, ◌^◌, ◌<◌, min, [
 ghost use Rattle.levels.specs.Names.{level_of};
 ghost use Rattle.levels.specs.Work.{Cleared};
 ghost use Rattle.shuffles.specs.Shuffle.{shuffled};
-ghost use Rattle.sealing.specs.Calls.{checked_at, accepted, lengths_of, work_of};
-ghost use Rattle.capi.specs.Codes.{code_of_layer, code_of_part, told, number_of, report_after, rule_of, GivenBy, error_vector_answer, error_vector_after, permute_answer, permuted, permute_after, hash_answer, hash_after};
+ghost use Rattle.levels.specs.Rows.{work_of};
+ghost use Rattle.sealing.specs.Calls.{checked_at, accepted, lengths_of};
+ghost use Rattle.capi.specs.Codes.{told, number_of, report_after, rule_of, GivenBy, error_vector_answer, error_vector_after, permute_answer, permuted, permute_after, hash_answer, hash_after};
 
+pub mod kinds;
 pub mod narrow;
 pub mod pairs;
 
 use hashes::Hash;
+use kinds::AnyHash;
 use levels::Level;
-use levels::faults::{Fault, Layer, Part};
-use levels::guards::{Place, Position, PositionsGuard};
+use levels::faults::{Fault, Report};
+use levels::guards::{Place, Position, PositionsGuard, Work};
 use narrow::Narrow;
-use sha3::Sha3;
-use sha512::Sha2;
-
-fn layer_code(layer: Layer) -> u64
-    ensures { result ≡ code_of_layer layer }
-{
-    match layer {
-        Layer::Call => 1,
-        Layer::Hatch => 2,
-        Layer::Hash => 3,
-        Layer::Key => 4,
-        Layer::Line => 5,
-    }
-}
-
-fn part_code(part: Part) -> u64
-    ensures { result ≡ code_of_part part }
-{
-    match part {
-        Part::None => 0,
-        Part::Support => 1,
-        Part::Coefficient => 2,
-        Part::Clash => 3,
-        Part::Zeros => 4,
-        Part::Matrix => 5,
-        Part::Rank => 6,
-    }
-}
 
 // An answer as number, layer, part and place.
 fn told_of(answer: Result<(), Fault>) -> [u64; 4]
     ensures { result ≡ told answer }
 {
     match answer {
-        Ok(()) => [0, 0, 0, 0],
+        Ok(()) => [0; 4],
         Err(fault) => {
-            let r = fault.report();
-            [
-                u64::from(r.number),
-                layer_code(r.layer),
-                part_code(r.part),
-                r.place as u64,
-            ]
+            let r = Report::from(fault);
+            let part = match r.part {
+                Some(part) => part as u64,
+                None => 0,
+            };
+            [u64::from(r.number), r.layer as u64, part, r.place as u64]
         }
     }
+}
+
+// The number of an answer, 0 for an acceptance.
+fn number(answer: Result<(), Fault>) -> u64
+    ensures { result ≡ number_of answer }
+{
+    told_of(answer)[0]
 }
 
 // Writes an answer as number, layer, part and place, or zeros, where there are four entries.
@@ -69,35 +50,32 @@ fn tell(answer: Result<(), Fault>, report: &mut [u64]) -> u64
     ensures number { result ≡ number_of answer }
     ensures report { report.new ≡ report_after report.old answer }
 {
-    let told = told_of(answer);
     if report.len() == 4 {
-        report.copy_from_slice(&told);
+        report.copy_from_slice(&told_of(answer));
     }
-    match answer {
-        Ok(()) => 0,
-        Err(fault) => u64::from(fault.report().number),
-    }
+    number(answer)
 }
 
 // Starts the hash, takes two lists of bytes, and writes what comes.
-fn digest<H: Hash>(hash: &mut H, first: &[u8], second: &[u8], out: &mut [u8]) -> u64
-    ensures answer { result ≡ hash_answer (H.Hash.capacity hash.old) first.now second.now out.old }
+fn digest<H: Hash>(
+    hash: &mut H,
+    first: &[u8],
+    second: &[u8],
+    out: &mut [u8],
+) -> Result<(), Fault>
+    ensures answer { number_of result ≡ hash_answer (H.Hash.capacity hash.old) first.now second.now out.old }
     ensures gives { out.new ≡ hash_after (H.Hash.capacity hash.old) (H.Hash.rule hash.old) first.now second.now out.old }
 {
     if out.len() != 32 {
-        return 3;
+        return Err(Fault::WrongLength(1));
     }
     let mut block = [0; 32];
     hash.start();
-    let Ok(()) = hash.take(first) else {
-        return 5;
-    };
-    let Ok(()) = hash.take(second) else {
-        return 5;
-    };
+    hash.take(first)?;
+    hash.take(second)?;
     hash.finish(&mut block);
     out.copy_from_slice(&block);
-    0
+    Ok(())
 }
 
 #[unsafe(no_mangle)]
@@ -105,11 +83,8 @@ pub extern "C" fn zq_hash(kind: u8, capacity: usize, bytes: &[u8], out: &mut [u8
     ensures answer { result ≡ hash_answer (min capacity 65536) bytes.now [] out.old }
     ensures gives { out.new ≡ hash_after (min capacity 65536) (rule_of kind) bytes.now [] out.old }
 {
-    if kind == 0 {
-        digest(&mut Narrow::over(Sha3::new(), capacity), bytes, &[], out)
-    } else {
-        digest(&mut Narrow::over(Sha2::new(), capacity), bytes, &[], out)
-    }
+    let mut hash = Narrow::over(AnyHash::from(kind), capacity);
+    number(digest(&mut hash, bytes, &[], out))
 }
 
 #[unsafe(no_mangle)]
@@ -117,11 +92,7 @@ pub extern "C" fn zq_hash_in_two(kind: u8, first: &[u8], second: &[u8], out: &mu
     ensures answer { result ≡ hash_answer 65536 first.now second.now out.old }
     ensures gives { out.new ≡ hash_after 65536 (rule_of kind) first.now second.now out.old }
 {
-    if kind == 0 {
-        digest(&mut Sha3::new(), first, second, out)
-    } else {
-        digest(&mut Sha2::new(), first, second, out)
-    }
+    number(digest(&mut AnyHash::from(kind), first, second, out))
 }
 
 #[unsafe(no_mangle)]
@@ -155,21 +126,18 @@ fn permute_by(
     vector: &[u8],
     out: &mut [u8],
     positions: &mut [Position],
-) -> u64
-    ensures answer { result ≡ permute_answer seed.now vector.now out.old (length positions.old) }
+) -> Result<(), Fault>
+    ensures answer { number_of result ≡ permute_answer seed.now vector.now out.old (length positions.old) }
     ensures gives { out.new ≡ permute_after inverse seed.now vector.now out.old (length positions.old) }
 {
     if seed.len() != 32 {
-        return 3;
+        return Err(Fault::WrongLength(0));
     }
-    if out.len() != vector.len() {
-        return 3;
-    }
-    if vector.len() >= 0x1000_0000 {
-        return 3;
+    if out.len() != vector.len() || vector.len() >= 0x1000_0000 {
+        return Err(Fault::WrongLength(1));
     }
     if positions.len() < 8 * vector.len() {
-        return 3;
+        return Err(Fault::WrongLength(2));
     }
     permute(
         seed,
@@ -178,7 +146,7 @@ fn permute_by(
         out,
         &mut positions[0..8 * vector.len()],
     );
-    0
+    Ok(())
 }
 
 #[unsafe(no_mangle)]
@@ -194,30 +162,32 @@ pub extern "C" fn zq_permute(
     ensures positions { Cleared positions.old positions.new }
 {
     let p = PositionsGuard { positions };
-    permute_by(seed, inverse, vector, out, &mut p.positions[..])
+    number(permute_by(seed, inverse, vector, out, &mut p.positions[..]))
 }
 
 // Tests, and then writes the error vector.
-fn error_vector_at(level: &str, seed: &[u8], out: &mut [u8], positions: &mut [Position]) -> u64
-    ensures answer { result ≡ error_vector_answer (level_of level.now) seed.now out.old (length positions.old) }
+fn error_vector_at(
+    level: &str,
+    seed: &[u8],
+    out: &mut [u8],
+    positions: &mut [Position],
+) -> Result<(), Fault>
+    ensures answer { number_of result ≡ error_vector_answer (level_of level.now) seed.now out.old (length positions.old) }
     ensures gives { out.new ≡ error_vector_after (level_of level.now) seed.now out.old (length positions.old) }
 {
-    let Ok(level) = Level::from_name(level) else {
-        return 1;
-    };
-    let sizes = level.sizes();
+    let sizes = level.parse::<Level>()?.sizes();
     if seed.len() != 32 {
-        return 3;
+        return Err(Fault::WrongLength(0));
     }
     if out.len() != sizes.vector {
-        return 3;
+        return Err(Fault::WrongLength(1));
     }
     if positions.len() < sizes.n {
-        return 4;
+        return Err(Fault::ShortWork(2));
     }
     let n = sizes.n;
     shuffles::error_vector(&mut positions[0..n], sizes.t, seed, out);
-    0
+    Ok(())
 }
 
 // The bytes as a text that names the same level. Bytes that are not UTF-8 name none, as the empty text
@@ -243,42 +213,7 @@ pub extern "C" fn zq_error_vector(
     ensures positions { Cleared positions.old positions.new }
 {
     let p = PositionsGuard { positions };
-    error_vector_at(text(level), seed, out, &mut p.positions[..])
-}
-
-// Seals with a hash, and reports.
-fn seal_with<H: Hash>(
-    level: &[u8],
-    public_key: &[u8],
-    ticket_seed: &[u8],
-    ticket: &mut [u8],
-    key: &mut [u8],
-    hash: &mut H,
-    bytes: &mut [u8],
-    places: &mut [Place],
-    positions: &mut [Position],
-    report: &mut [u64],
-) -> u64
-    ensures answer { result ≡ number_of (accepted (checked_at (level_of level.now) (lengths_of public_key.now ticket_seed.now ticket.old key.old) (work_of bytes.old places.old positions.old) (H.Hash.capacity hash.old))) }
-    ensures report { report.new ≡ report_after report.old (accepted (checked_at (level_of level.now) (lengths_of public_key.now ticket_seed.now ticket.old key.old) (work_of bytes.old places.old positions.old) (H.Hash.capacity hash.old))) }
-    ensures gives { GivenBy (accepted (checked_at (level_of level.now) (lengths_of public_key.now ticket_seed.now ticket.old key.old) (work_of bytes.old places.old positions.old) (H.Hash.capacity hash.old))) (level_of level.now) (H.Hash.rule hash.old) public_key.now ticket_seed.now ticket.old ticket.new key.old key.new }
-    ensures bytes { Cleared bytes.old bytes.new }
-    ensures places { Cleared places.old places.new }
-    ensures positions { Cleared positions.old positions.new }
-{
-    let name = text(level);
-    let answer = sealing::seal(
-        name,
-        public_key,
-        ticket_seed,
-        ticket,
-        key,
-        hash,
-        bytes,
-        places,
-        positions,
-    );
-    tell(answer, report)
+    number(error_vector_at(text(level), seed, out, &mut p.positions[..]))
 }
 
 #[unsafe(no_mangle)]
@@ -302,33 +237,20 @@ pub extern "C" fn zq_seal(
     ensures places { Cleared places.old places.new }
     ensures positions { Cleared positions.old positions.new }
 {
-    if kind == 0 {
-        let mut sha3 = Narrow::over(Sha3::new(), capacity);
-        seal_with(
-            level,
-            public_key,
-            ticket_seed,
-            ticket,
-            key,
-            &mut sha3,
-            bytes,
-            places,
-            positions,
-            report,
-        )
-    } else {
-        let mut sha2 = Narrow::over(Sha2::new(), capacity);
-        seal_with(
-            level,
-            public_key,
-            ticket_seed,
-            ticket,
-            key,
-            &mut sha2,
-            bytes,
-            places,
-            positions,
-            report,
-        )
-    }
+    let mut hash = Narrow::over(AnyHash::from(kind), capacity);
+    let work = Work {
+        bytes,
+        places,
+        positions,
+    };
+    let answer = sealing::seal(
+        text(level),
+        public_key,
+        ticket_seed,
+        ticket,
+        key,
+        &mut hash,
+        work,
+    );
+    tell(answer, report)
 }

@@ -1,4 +1,5 @@
-// A hash that takes less than the one below, so that refusals for want of capacity can be met.
+// The hash that a kind's number names, and a hash that takes less than the one below, so that refusals
+// for want of capacity can be met.
 ghost use Rattle.std.specs.Prelude.{◌≡◌, min};
 ghost use Rattle.std.proofs.Common.{rules};
 

@@ -2,12 +2,12 @@
 ghost use Rattle.std.specs.Prelude.{◌≡◌};
 ghost use Rattle.levels.specs.Names.{level_of};
 ghost use Rattle.levels.specs.Work.{Cleared};
-ghost use Rattle.sealing.specs.Calls.{work_of};
+ghost use Rattle.levels.specs.Rows.{work_of};
 ghost use Rattle.keys.specs.Calls.{lengths_of, checked_at, tried_at};
 ghost use Rattle.capi.specs.Codes.{number_of, report_after, MadeBy};
 
 use crate::{tell, text};
-use levels::guards::{Place, Position};
+use levels::guards::{Place, Position, Work};
 
 #[unsafe(no_mangle)]
 pub extern "C" fn zq_make(
@@ -29,17 +29,19 @@ pub extern "C" fn zq_make(
     ensures places { Cleared places.old places.new }
     ensures positions { Cleared positions.old positions.new }
 {
-    let name = text(level);
+    let work = Work {
+        bytes,
+        places,
+        positions,
+    };
     let answer = keys::make(
-        name,
+        text(level),
         code_seed,
         mixing_seeds,
         decoy_seed,
         public_key,
         secret_key,
-        bytes,
-        places,
-        positions,
+        work,
     );
     tell(answer, report)
 }

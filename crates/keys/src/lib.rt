@@ -47,9 +47,7 @@ fn make_at(
             decoy_seed,
             public_key,
             secret_key,
-            &mut work.bytes[..],
-            &mut work.places[..],
-            &mut work.positions[..],
+            work,
         ),
         Level::Level128 | Level::Level192 | Level::Level256 => make_with::<E8192>(
             &sizes,
@@ -58,9 +56,7 @@ fn make_at(
             decoy_seed,
             public_key,
             secret_key,
-            &mut work.bytes[..],
-            &mut work.places[..],
-            &mut work.positions[..],
+            work,
         ),
     }
 }
@@ -107,17 +103,22 @@ pub fn make(
     decoy_seed: &[u8],
     public_key: &mut [u8],
     secret_key: &mut [u8],
-    work: &mut Work<'_>,
+    work: Work<'_>,
 ) -> Result<(), Fault>
-    ensures answer { result ≡ tried_at (checked_at (level_of level.now) (lengths_of code_seed.now mixing_seeds.now decoy_seed.now public_key.old secret_key.old) (work_of work.old.bytes.now work.old.places.now work.old.positions.now)) code_seed.now mixing_seeds.now }
+    ensures answer { result ≡ tried_at (checked_at (level_of level.now) (lengths_of code_seed.now mixing_seeds.now decoy_seed.now public_key.old secret_key.old) (work_of work.entry.bytes.now work.entry.places.now work.entry.positions.now)) code_seed.now mixing_seeds.now }
     ensures gives { elim result [ Ok _ ↦ MadeAt (level_of level.now) code_seed.now mixing_seeds.now decoy_seed.now public_key.new secret_key.new | Err _ ↦ (public_key.new ≡ public_key.old) × (secret_key.new ≡ secret_key.old) ] }
-    ensures bytes { Cleared work.old.bytes.now work.new.bytes.now }
-    ensures places { Cleared work.old.places.now work.new.places.now }
-    ensures positions { Cleared work.old.positions.now work.new.positions.now }
+    ensures bytes { Cleared work.entry.bytes.now work.exit.0.now }
+    ensures places { Cleared work.entry.places.now work.exit.1.0.now }
+    ensures positions { Cleared work.entry.positions.now work.exit.1.1.0.now }
 {
-    let b = BytesGuard { bytes: &mut work.bytes[..] };
-    let e = PlacesGuard { places: &mut work.places[..] };
-    let p = PositionsGuard { positions: &mut work.positions[..] };
+    let Work {
+        bytes,
+        places,
+        positions,
+    } = work;
+    let b = BytesGuard { bytes };
+    let e = PlacesGuard { places };
+    let p = PositionsGuard { positions };
     make_within(
         level,
         code_seed,

@@ -19,7 +19,7 @@ use goppa::mixed::write_mixed;
 use goppa::zeros::goppa_polynomial;
 use levels::Sizes;
 use levels::faults::Fault;
-use levels::guards::{Place, Position};
+use levels::guards::{Place, Position, Work};
 use shuffles::order_by;
 
 // Writes all elements in the order of a code seed, and the polynomial g. No element of the support is a
@@ -207,17 +207,18 @@ pub fn make_with<F: BinaryField>(
     decoy_seed: &[u8],
     public_key: &mut [u8],
     secret_key: &mut [u8],
-    bytes: &mut [u8],
-    places: &mut [Place],
-    positions: &mut [Position],
+    work: &mut Work<'_>,
 ) -> Result<(), Fault>
     requires sizes { (Lawful sizes.now) × (F.Field.bits ≡ sizes.now.m) }
     requires seeds { (length code_seed.now ≡ 32) × (length decoy_seed.now ≡ 32) }
-    requires work { (sizes.now.work_bytes ≤ length bytes.old) × ((sizes.now.work_places ≤ length places.old) × (sizes.now.work_places ≤ length positions.old)) }
+    requires work { (sizes.now.work_bytes ≤ length work.old.bytes.now) × ((sizes.now.work_places ≤ length work.old.places.now) × (sizes.now.work_places ≤ length work.old.positions.now)) }
     requires keys { (length public_key.old ≡ sizes.now.public_key) × (length secret_key.old ≡ sizes.now.secret_key) }
     ensures answer { result ≡ answer (seed_row F.Field.ops F.Field.places sizes.now code_seed.now mixing_seeds.now ∷ []) }
     ensures gives { elim result [ Ok _ ↦ Made F.Field.ops F.Field.places sizes.now code_seed.now mixing_seeds.now decoy_seed.now public_key.new secret_key.new | Err _ ↦ (public_key.new ≡ public_key.old) × (secret_key.new ≡ secret_key.old) ] }
 {
+    let bytes = &mut *work.bytes;
+    let places = &mut *work.places;
+    let positions = &mut *work.positions;
     let (code, rest) = places.split_at_mut(size::<F>());
     let (g, rest) = rest.split_at_mut(sizes.t + 1);
     let column = &mut rest[0..sizes.t];

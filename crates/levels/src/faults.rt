@@ -28,20 +28,20 @@ pub enum Fault {
     OutOfForm(usize),
 }
 
-// The layer that refuses.
+// The layer that refuses, with the number by which C knows it.
 #[derive(Clone, Copy, Debug, PartialEq, Eq)]
 pub enum Layer {
-    Call,
+    Call = 1,
     Hatch,
     Hash,
     Key,
     Line,
 }
 
-// The part of a written key that is not sound.
+// The part of a written key that is not sound, with the number by which C knows it.
 #[derive(Clone, Copy, Debug, PartialEq, Eq)]
 pub enum Part {
-    Support,
+    Support = 1,
     Coefficient,
     Clash,
     Zeros,
@@ -58,11 +58,11 @@ pub struct Report {
     pub place: usize,
 }
 
-impl Fault {
-    pub fn report(self) -> Report
-        ensures { result ≡ report_of self }
-    {
-        let (number, layer, part, place) = match self {
+impl From<Fault> for Report {
+    ghost from_gives = { λ fault report. report ≡ report_of fault };
+
+    fn from(fault: Fault) -> Report {
+        let (number, layer, part, place) = match fault {
             Fault::NoLevel => (1, Layer::Call, None, 0),
             Fault::NoKey => (2, Layer::Hatch, None, 0),
             Fault::WrongLength(buffer) => (3, Layer::Call, None, buffer),

@@ -209,9 +209,9 @@ fn seal_within<H: Hash>(
     ticket: &mut [u8],
     key: &mut [u8],
     hash: &mut H,
-    work: &mut Work<'_>,
+    work: Work<'_>,
 ) -> Result<(), Fault>
-    ensures answer { result ≡ accepted (checked_at (level_of level.now) (lengths_of public_key.now ticket_seed.now ticket.old key.old) (work_of work.old.bytes.now work.old.places.now work.old.positions.now) (H.Hash.capacity hash.old)) }
+    ensures answer { result ≡ accepted (checked_at (level_of level.now) (lengths_of public_key.now ticket_seed.now ticket.old key.old) (work_of work.entry.bytes.now work.entry.places.now work.entry.positions.now) (H.Hash.capacity hash.old)) }
     ensures gives { elim result [ Ok _ ↦ SealedAt (level_of level.now) (H.Hash.rule hash.old) public_key.now ticket_seed.now ticket.new key.new × (H.Hash.left hash.new ≡ H.Hash.capacity hash.old) × (H.Hash.outcome hash.new ≡ H.Hash.rule hash.old) | Err _ ↦ (ticket.new ≡ ticket.old) × (key.new ≡ key.old) × (hash.new ≡ hash.old) ] }
     ensures same { H.Hash.rule hash.new ≡ H.Hash.rule hash.old }
     ensures kept { H.Hash.capacity hash.new ≡ H.Hash.capacity hash.old }
@@ -223,6 +223,9 @@ fn seal_within<H: Hash>(
         key: key.len(),
     };
     let sizes = check(level, buffers, work.lengths(), hash.capacity())?;
+    let Work {
+        bytes, positions, ..
+    } = work;
     seal_checked(
         &sizes,
         public_key,
@@ -230,8 +233,8 @@ fn seal_within<H: Hash>(
         ticket,
         key,
         hash,
-        &mut work.bytes[..],
-        &mut work.positions[..],
+        bytes,
+        positions,
     );
     Ok(())
 }
@@ -245,19 +248,24 @@ pub fn seal<H: Hash>(
     ticket: &mut [u8],
     key: &mut [u8],
     hash: &mut H,
-    work: &mut Work<'_>,
+    work: Work<'_>,
 ) -> Result<(), Fault>
-    ensures answer { result ≡ accepted (checked_at (level_of level.now) (lengths_of public_key.now ticket_seed.now ticket.old key.old) (work_of work.old.bytes.now work.old.places.now work.old.positions.now) (H.Hash.capacity hash.old)) }
+    ensures answer { result ≡ accepted (checked_at (level_of level.now) (lengths_of public_key.now ticket_seed.now ticket.old key.old) (work_of work.entry.bytes.now work.entry.places.now work.entry.positions.now) (H.Hash.capacity hash.old)) }
     ensures gives { elim result [ Ok _ ↦ SealedAt (level_of level.now) (H.Hash.rule hash.old) public_key.now ticket_seed.now ticket.new key.new × (H.Hash.left hash.new ≡ H.Hash.capacity hash.old) × (H.Hash.outcome hash.new ≡ H.Hash.rule hash.old) | Err _ ↦ (ticket.new ≡ ticket.old) × (key.new ≡ key.old) × (hash.new ≡ hash.old) ] }
     ensures same { H.Hash.rule hash.new ≡ H.Hash.rule hash.old }
     ensures kept { H.Hash.capacity hash.new ≡ H.Hash.capacity hash.old }
-    ensures bytes { Cleared work.old.bytes.now work.new.bytes.now }
-    ensures places { Cleared work.old.places.now work.new.places.now }
-    ensures positions { Cleared work.old.positions.now work.new.positions.now }
+    ensures bytes { Cleared work.entry.bytes.now work.exit.0.now }
+    ensures places { Cleared work.entry.places.now work.exit.1.0.now }
+    ensures positions { Cleared work.entry.positions.now work.exit.1.1.0.now }
 {
-    let b = BytesGuard { bytes: &mut work.bytes[..] };
-    let e = PlacesGuard { places: &mut work.places[..] };
-    let p = PositionsGuard { positions: &mut work.positions[..] };
+    let Work {
+        bytes,
+        places,
+        positions,
+    } = work;
+    let b = BytesGuard { bytes };
+    let e = PlacesGuard { places };
+    let p = PositionsGuard { positions };
     seal_within(
         level,
         public_key,
@@ -265,7 +273,7 @@ pub fn seal<H: Hash>(
         ticket,
         key,
         hash,
-        &mut Work {
+        Work {
             bytes: &mut b.bytes[..],
             places: &mut e.places[..],
             positions: &mut p.positions[..],
