@@ -83,8 +83,8 @@ pub extern "C" fn zq_hash(kind: u8, capacity: usize, bytes: &[u8], out: &mut [u8
     ensures answer { result ≡ hash_answer (min capacity 65536) bytes.now [] out.old }
     ensures gives { out.new ≡ hash_after (min capacity 65536) (rule_of kind) bytes.now [] out.old }
 {
-    let mut hash = Narrow::over(AnyHash::from(kind), capacity);
-    number(digest(&mut hash, bytes, &[], out))
+    let hash = &mut Narrow::over(AnyHash::from(kind), capacity);
+    number(digest(hash, bytes, &[], out))
 }
 
 #[unsafe(no_mangle)]

@@ -3,16 +3,16 @@
 // other, of a decoy seed and of a ticket seed.
 #![tactic(auto)]
 
-mod hex;
-
 use anyhow::Context;
-use hex::Hex;
-use levels::faults::Fault;
-use levels::guards::{Place, Position};
+use levels::faults::Report;
+use levels::guards::Work;
 use levels::{Level, Sizes};
-use sha3::Sha3;
-use std::alloc::{AllocError, Global};
+use std::alloc::Global;
 use std::{env, fs};
+use tasks::failures::Failure;
+use tasks::memory::Memory;
+use tasks::sealed::seal;
+use tasks::shown::Hex;
 
 // What the shop makes its keys from.
 #[derive(Drop)]
@@ -29,102 +29,33 @@ struct Pair {
     secret_key: Vec<u8>,
 }
 
-// What a seal makes.
-#[derive(Drop)]
-struct Sealed {
-    ticket: Vec<u8>,
-    key: Vec<u8>,
-}
-
-// The work memory that is lent to both.
-#[derive(Drop)]
-struct Work {
-    bytes: Vec<u8>,
-    places: Vec<Place>,
-    positions: Vec<Position>,
-}
-
-// Work memory of a level's size.
-fn work_of(heap: Global, sizes: &Sizes) -> Result<Work, AllocError> {
-    let bytes = vec![in heap; 0u8; sizes.work_bytes]?;
-    let places = vec![in heap; 0u16; sizes.work_places]?;
-    let positions = vec![in heap; 0u32; sizes.work_places]?;
-    Ok(Work {
-        bytes,
-        places,
-        positions,
-    })
-}
-
 // Makes the pair of the seeds.
 fn make(
     heap: Global,
     level: &str,
     sizes: &Sizes,
     seeds: &Seeds,
-    work: &mut Work,
-) -> Result<Result<Pair, Fault>, AllocError> {
+    memory: &mut Memory,
+) -> Result<Pair, Failure> {
     let mut public_key = vec![in heap; 0u8; sizes.public_key]?;
     let mut secret_key = vec![in heap; 0u8; sizes.secret_key]?;
-    let answer = keys::make(
+    keys::make(
         level,
         &seeds.code,
         &seeds.mixing,
         &seeds.decoy,
         &mut public_key,
         &mut secret_key,
-        &mut work.bytes,
-        &mut work.places,
-        &mut work.positions,
-    );
-    match answer {
-        Ok(()) => Ok(Ok(Pair {
-            public_key,
-            secret_key,
-        })),
-        Err(fault) => Ok(Err(fault)),
-    }
-}
-
-// Seals to a public key with SHA3-512.
-fn seal(
-    heap: Global,
-    level: &str,
-    sizes: &Sizes,
-    public_key: &[u8],
-    seed: &[u8],
-    work: &mut Work,
-) -> Result<Result<Sealed, Fault>, AllocError> {
-    let mut ticket = vec![in heap; 0u8; sizes.ticket]?;
-    let mut key = vec![in heap; 0u8; 32]?;
-    let mut hash = Sha3::new();
-    let answer = sealing::seal(
-        level,
+        Work {
+            bytes: &mut memory.bytes,
+            places: &mut memory.places,
+            positions: &mut memory.positions,
+        },
+    )?;
+    Ok(Pair {
         public_key,
-        seed,
-        &mut ticket,
-        &mut key,
-        &mut hash,
-        &mut work.bytes,
-        &mut work.places,
-        &mut work.positions,
-    );
-    match answer {
-        Ok(()) => Ok(Ok(Sealed { ticket, key })),
-        Err(fault) => Ok(Err(fault)),
-    }
-}
-
-// The four lines of a refusal.
-fn tell_refusal(rt: &HostRuntime, fault: Fault) -> anyhow::Result<()> {
-    let report = fault.report();
-    let number = report.number;
-    let place = report.place;
-    println!(rt; "answer={number}")?;
-    println!(rt; "layer={}", report.layer.name())?;
-    println!(rt; "part={}", report.part.name())?;
-    println!(rt; "place={place}")?;
-    Ok(())
+        secret_key,
+    })
 }
 
 // What the shop's keys are made from.
@@ -156,20 +87,12 @@ fn tell_ticket_seed(rt: &HostRuntime, seed: &[u8]) -> anyhow::Result<()> {
     Ok(())
 }
 
-// The ticket and its key.
-fn tell_sealed(rt: &HostRuntime, sealed: &Sealed) -> anyhow::Result<()> {
-    let head = sealed.ticket.as_slice().get(..32).unwrap_or(&[]);
-    let body = sealed.ticket.as_slice().get(32..).unwrap_or(&[]);
-    println!(rt;
-        "Sealed to the public key with SHA3-512. The head hides the vector, the body is for the shop to decode:"
-    )?;
-    println!(rt; "head={}", Hex(head))?;
-    println!(rt; "body={}", Hex(body))?;
-    println!(rt;
-        "The ticket, which goes to the shop, and the key of the job file, which stays here:"
-    )?;
-    println!(rt; "ticket={}", Hex(&sealed.ticket))?;
-    println!(rt; "key={}", Hex(&sealed.key))?;
+// The four lines of a refusal.
+fn tell(rt: &HostRuntime, failure: Failure) -> anyhow::Result<()> {
+    match failure {
+        Failure::Refused(fault) => println!(rt; "{}", Report::from(fault))?,
+        Failure::NoMemory(error) => return Err(error.into()),
+    }
     Ok(())
 }
 
@@ -182,16 +105,22 @@ fn make_and_seal(
     ticket_seed: &[u8],
 ) -> anyhow::Result<()> {
     let heap = rt.alloc();
-    let mut work = work_of(heap, sizes)?;
-    let pair = match make(heap, level, sizes, seeds, &mut work)? {
+    let mut memory = Memory::new(heap, sizes)?;
+    let pair = match make(heap, level, sizes, seeds, &mut memory) {
         Ok(pair) => pair,
-        Err(fault) => return tell_refusal(rt, fault),
+        Err(failure) => return tell(rt, failure),
     };
     tell_pair(rt, &pair)?;
     tell_ticket_seed(rt, ticket_seed)?;
-    match seal(heap, level, sizes, &pair.public_key, ticket_seed, &mut work)? {
-        Ok(sealed) => tell_sealed(rt, &sealed),
-        Err(fault) => tell_refusal(rt, fault),
+    match seal(heap, level, sizes, &pair.public_key, ticket_seed, &mut memory) {
+        Ok(sealed) => {
+            println!(rt;
+                "Sealed to the public key with SHA3-512. The head hides the vector, the body is for the shop to decode:"
+            )?;
+            println!(rt; "{sealed}")?;
+            Ok(())
+        }
+        Err(failure) => tell(rt, failure),
     }
 }
 
@@ -208,9 +137,9 @@ fn run(rt: &HostRuntime) -> anyhow::Result<()> {
         decoy,
     };
     tell_seeds(rt, &level, &seeds)?;
-    match Level::from_name(&level) {
+    match level.parse::<Level>() {
         Ok(named) => make_and_seal(rt, &level, &named.sizes(), &seeds, &ticket_seed),
-        Err(fault) => tell_refusal(rt, fault),
+        Err(fault) => tell(rt, fault.into()),
     }
 }
 

@@ -1,6 +1,7 @@
-// Bytes as pairs of lower-case hexadecimal digits.
+// Bytes as they are printed.
 use std::fmt;
 
+// Pairs of lower-case hexadecimal digits.
 #[derive(Clone, Copy)]
 pub struct Hex<'a>(pub &'a [u8]);
 
