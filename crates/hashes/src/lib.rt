@@ -6,6 +6,7 @@ ghost use Rattle.hashes.specs.Restarted.{Restarted};
 ghost use Rattle.levels.specs.declared.faults.Fault.TheVariants.{SmallCapacity};
 
 pub mod labelled;
+pub mod stream;
 
 use levels::faults::Fault;
 

@@ -118,7 +118,7 @@ fn round(a: &mut [u64; 25], rc: u64)
 pub fn permute(a: &mut [u64; 25])
     ensures { a.new ≡ permuted a.old }
 {
-    for r in 0..24 {
-        round(a, CONSTANTS[r]);
+    for rc in CONSTANTS {
+        round(a, rc);
     }
 }

@@ -1,0 +1,129 @@
+// The streaming hash over every block function: bytes are taken as they come, and each block is
+// absorbed once it is full.
+ghost use Rattle.std.specs.Prelude.{◌≡◌, ⊤, ℕ, ◌+◌, ◌-◌, ◌*◌, ◌<◌, ◌≤◌, List, ◌++◌, length};
+ghost use Rattle.hashes.specs.Streams.{outcome_of};
+
+use crate::Hash;
+use levels::faults::Fault;
+use std::alloc::AllocError;
+
+// How many bytes a hash can take.
+const CAPACITY: usize = 65536;
+
+// A function that absorbs a message block by block, each of N bytes. The digest of a state that has
+// absorbed so many blocks says, for each list of bytes that follow, which 32 bytes come of it all.
+pub trait BlockFunction<const N: usize>: Copy {
+    ghost rule: { List ℕ → List ℕ };
+
+    ghost digest: { Self → ℕ → List ℕ → List ℕ };
+
+    // The state that has absorbed nothing.
+    fn begin() -> Self
+        ensures { digest result 0 ≡ rule };
+
+    // Absorbs one more block.
+    fn absorb(&mut self, block: &[u8; N])
+        ensures { (k : ℕ) → digest self.new (k + 1) ≡ (λ xs. digest self.old k (block.now ++ xs)) };
+
+    // Writes the digest of the rest of a message, which fills no block.
+    fn close(self, absorbed: usize, rest: &[u8], out: &mut [u8; 32])
+        requires few { N * absorbed + length rest.now ≤ 65536 }
+        requires short { length rest.now < N }
+        ensures { out.new ≡ digest self absorbed rest.now };
+
+    ghost long: { 0 < N };
+
+    ghost wide: { (xs : List ℕ) → length (rule xs) ≡ 32 };
+}
+
+// The state after so many blocks, and the bytes past them, which stand at the front of the block.
+pub struct Stream<B: BlockFunction<N>, const N: usize> {
+    state: B,
+    absorbed: usize,
+    block: [u8; N],
+    used: usize,
+    ghost short: { used < N },
+    ghost few: { N * absorbed + used ≤ 65536 },
+}
+
+impl<B: BlockFunction<N>, const N: usize> Clone for Stream<B, N> {
+    ghost is_clone = { λ s t. t ≡ s };
+
+    ghost is_infallible = { λ _. ⊤ };
+
+    fn clone(&self) -> Result<Self, AllocError> {
+        Ok(*self)
+    }
+}
+
+impl<B: BlockFunction<N>, const N: usize> Copy for Stream<B, N> {}
+
+impl<B: BlockFunction<N>, const N: usize> Stream<B, N> {
+    // A hash that has taken nothing.
+    pub fn new() -> Self
+        ensures fresh { N * result.absorbed + result.used ≡ 0 }
+        ensures ruled { outcome_of (B.digest result.state result.absorbed) result.block result.used ≡ B.rule }
+    {
+        Stream {
+            state: B::begin(),
+            absorbed: 0,
+            block: [0; N],
+            used: 0,
+        }
+    }
+
+    // Takes all of the bytes, and absorbs each block that they fill.
+    fn push_all(&mut self, bytes: &[u8])
+        requires { N * self.old.absorbed + self.old.used + length bytes.now ≤ 65536 }
+        ensures more { outcome_of (B.digest self.new.state self.new.absorbed) self.new.block self.new.used ≡ (λ xs. outcome_of (B.digest self.old.state self.old.absorbed) self.old.block self.old.used (bytes.now ++ xs)) }
+        ensures count { N * self.new.absorbed + self.new.used ≡ N * self.old.absorbed + self.old.used + length bytes.now }
+    {
+        let mut rest = bytes;
+        while rest.len() >= N - self.used {
+            let (front, back) = rest.split_at(N - self.used);
+            let room = &mut self.block[..];
+            room[self.used..].copy_from_slice(front);
+            self.state.absorb(&self.block);
+            self.absorbed += 1;
+            self.used = 0;
+            rest = back;
+        }
+        let end = self.used + rest.len();
+        let room = &mut self.block[..];
+        room[self.used..end].copy_from_slice(rest);
+        self.used = end;
+    }
+}
+
+impl<B: BlockFunction<N>, const N: usize> Hash for Stream<B, N> {
+    ghost rule = { λ _. B.rule };
+
+    ghost capacity = { λ _. 65536 };
+
+    ghost left = { λ s. 65536 - (N * s.absorbed + s.used) };
+
+    ghost outcome = { λ s. outcome_of (B.digest s.state s.absorbed) s.block s.used };
+
+    ghost wide = { λ s xs. B.wide xs };
+
+    fn start(&mut self) {
+        *self = Stream::new();
+    }
+
+    fn take(&mut self, bytes: &[u8]) -> Result<(), Fault> {
+        if bytes.len() > CAPACITY - (N * self.absorbed + self.used) {
+            return Err(Fault::SmallCapacity);
+        }
+        self.push_all(bytes);
+        Ok(())
+    }
+
+    fn finish(&mut self, out: &mut [u8; 32]) {
+        self.state.close(self.absorbed, &self.block[..self.used], out);
+        self.start();
+    }
+
+    fn capacity(&self) -> usize {
+        CAPACITY
+    }
+}
