@@ -25,11 +25,11 @@ pub trait BlockFunction<const N: usize>: Copy {
     fn absorb(&mut self, block: &[u8; N])
         ensures { (k : ℕ) → digest self.new (k + 1) ≡ (λ xs. digest self.old k (block.now ++ xs)) };
 
-    // Writes the digest of the rest of a message, which fills no block.
-    fn close(self, absorbed: usize, rest: &[u8], out: &mut [u8; 32])
+    // Writes the digest of the rest of a message, which fills no block. What it leaves is of no use.
+    fn close(&mut self, absorbed: usize, rest: &[u8], out: &mut [u8; 32])
         requires few { N * absorbed + length rest.now ≤ 65536 }
         requires short { length rest.now < N }
-        ensures { out.new ≡ digest self absorbed rest.now };
+        ensures { out.new ≡ digest self.old absorbed rest.now };
 
     ghost long: { 0 < N };
 

@@ -31,7 +31,7 @@ impl BlockFunction<72> for Sponge {
         absorb(&mut self.state, block);
     }
 
-    fn close(mut self, _: usize, rest: &[u8], out: &mut [u8; 32]) {
+    fn close(&mut self, _: usize, rest: &[u8], out: &mut [u8; 32]) {
         absorb(&mut self.state, &pad(rest));
         squeeze(&self.state, out);
     }

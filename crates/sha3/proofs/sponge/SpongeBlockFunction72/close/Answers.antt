@@ -7,4 +7,4 @@ pub returns : goal.returns
 returns c =
     c.squeeze.ensures
     ∙ ap (λ (a : List ℕ). take 32 (take 64 (all_bytes a))) c.absorb.ensures
-    ∙ ap (take 32) (sym (sponge_last c.args.self.state c.args.rest.now c.pad.result c.requires.short (omega arith) c.pad.ensures))
+    ∙ ap (take 32) (sym (sponge_last c.args.self.now.state c.args.rest.now c.pad.result c.requires.short (omega arith) c.pad.ensures))

@@ -7,4 +7,4 @@ pub returns : goal.returns
 returns c =
     c.write_digest.ensures
     ∙ ap (λ (h : List ℕ). take 32 (digest h)) c.absorb_last.ensures
-    ∙ ap (take 32) (sym (goes_end c.args.self.value c.args.rest.now (128 * c.args.absorbed)))
+    ∙ ap (take 32) (sym (goes_end c.args.self.now.value c.args.rest.now (128 * c.args.absorbed)))
