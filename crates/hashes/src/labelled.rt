@@ -1,14 +1,13 @@
 // The labelled hash: a hash over every hash.
 ghost use Rattle.std.specs.Prelude.{◌≡◌, ◌+◌, ◌-◌, ◌≤◌, ◌++◌, length};
-ghost use Rattle.hashes.specs.Labels.{labelled, left_under};
+ghost use Rattle.hashes.specs.Labels.{labelled, labelled_length, left_under};
 ghost use Rattle.hashes.specs.Restarted.{Restarted};
-ghost use Rattle.std.proofs.Common.{rules};
 
 use crate::{Hash, take_all};
 use levels::faults::Fault;
 
 // The eight bytes that stand before what is taken.
-#[derive(Clone, Copy)]
+#[derive(Clone, Copy, Debug, PartialEq, Eq)]
 pub struct Label {
     pub bytes: [u8; 8],
 }
@@ -30,7 +29,7 @@ impl<H: Hash> Hash for Labelled<H> {
 
     ghost outcome = { λ s. H.outcome s.below };
 
-    ghost wide = { Prim.search rules };
+    ghost wide = { λ s. labelled_length (H.capacity s.below) s.label.bytes (H.rule s.below) 32 (H.wide s.below) };
 
     fn start(&mut self) {
         self.below.start();

@@ -52,7 +52,5 @@ pub fn take_all<H: Hash>(hash: &mut H, bytes: &[u8])
     ensures same { H.rule hash.new ≡ H.rule hash.old }
     ensures kept { H.capacity hash.new ≡ H.capacity hash.old }
 {
-    let Ok(()) = hash.take(bytes) else {
-        return;
-    };
+    hash.take(bytes).unwrap();
 }

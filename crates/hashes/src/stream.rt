@@ -1,7 +1,6 @@
 // The streaming hash over every block function: bytes are taken as they come, and each block is
 // absorbed once it is full.
-ghost use Rattle.std.specs.Prelude.{◌≡◌, ⊤, ℕ, ◌+◌, ◌-◌, ◌*◌, ◌<◌, ◌≤◌, List, ◌++◌, length};
-ghost use Rattle.hashes.specs.Streams.{outcome_of};
+ghost use Rattle.std.specs.Prelude.{◌≡◌, ⊤, ℕ, ◌+◌, ◌-◌, ◌*◌, ◌<◌, ◌≤◌, List, ◌++◌, length, take};
 
 use crate::Hash;
 use levels::faults::Fault;
@@ -61,8 +60,8 @@ impl<B: BlockFunction<N>, const N: usize> Copy for Stream<B, N> {}
 impl<B: BlockFunction<N>, const N: usize> Stream<B, N> {
     // A hash that has taken nothing.
     pub fn new() -> Self
-        ensures fresh { N * result.absorbed + result.used ≡ 0 }
-        ensures ruled { outcome_of (B.digest result.state result.absorbed) result.block result.used ≡ B.rule }
+        ensures fresh { ⟦<Stream<B, N> as Hash>⟧.left result ≡ 65536 }
+        ensures ruled { ⟦<Stream<B, N> as Hash>⟧.outcome result ≡ B.rule }
     {
         Stream {
             state: B::begin(),
@@ -75,7 +74,7 @@ impl<B: BlockFunction<N>, const N: usize> Stream<B, N> {
     // Takes all of the bytes, and absorbs each block that they fill.
     fn push_all(&mut self, bytes: &[u8])
         requires { N * self.old.absorbed + self.old.used + length bytes.now ≤ 65536 }
-        ensures more { outcome_of (B.digest self.new.state self.new.absorbed) self.new.block self.new.used ≡ (λ xs. outcome_of (B.digest self.old.state self.old.absorbed) self.old.block self.old.used (bytes.now ++ xs)) }
+        ensures more { ⟦<Stream<B, N> as Hash>⟧.outcome self.new ≡ (λ xs. ⟦<Stream<B, N> as Hash>⟧.outcome self.old (bytes.now ++ xs)) }
         ensures count { N * self.new.absorbed + self.new.used ≡ N * self.old.absorbed + self.old.used + length bytes.now }
     {
         let mut rest = bytes;
@@ -102,7 +101,7 @@ impl<B: BlockFunction<N>, const N: usize> Hash for Stream<B, N> {
 
     ghost left = { λ s. 65536 - (N * s.absorbed + s.used) };
 
-    ghost outcome = { λ s. outcome_of (B.digest s.state s.absorbed) s.block s.used };
+    ghost outcome = { λ s xs. B.digest s.state s.absorbed (take s.used s.block ++ xs) };
 
     ghost wide = { λ s xs. B.wide xs };
 
