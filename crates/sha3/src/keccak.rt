@@ -1,4 +1,6 @@
 // The permutation Keccak-p[1600, 24]. The lane of column x and row y is at x + 5 y.
+#![tactic(auto, unfolding(crate::specs::Keccak::lanes, crate::specs::Keccak::theta_lane))]
+
 ghost use Rattle.std.specs.Prelude.{◌≡◌, ◌<◌};
 ghost use Rattle.sha3.specs.Keccak.{parity, theta_lane, theta, rho_lane, rho, pi_lane, pi, chi_lane, chi, round, permuted};
 

@@ -3,7 +3,7 @@ ghost use Rattle.std.specs.Prelude.{◌≡◌, ◌<◌, length, take};
 ghost use Rattle.sha3.specs.Keccak.{permuted};
 ghost use Rattle.sha3.specs.Sponge.{sponge, sha3_rule, mixed, padded, byte_at, all_bytes};
 ghost use Rattle.sha3.specs.Outcomes.{rule_length};
-ghost use Rattle.std.proofs.Common.{arith};
+ghost use Rattle.std.proofs.Common.{lit<};
 
 use crate::keccak::permute;
 use hashes::stream::BlockFunction;
@@ -19,7 +19,7 @@ impl BlockFunction<72> for Sponge {
 
     ghost digest = { λ s _ xs. take 32 (sponge s.state xs) };
 
-    ghost long = { Prim.omega arith };
+    ghost long = { lit< tt };
 
     ghost wide = { rule_length };
 
