@@ -118,7 +118,8 @@ impl<B: BlockFunction<N>, const N: usize> Hash for Stream<B, N> {
     }
 
     fn finish(&mut self, out: &mut [u8; 32]) {
-        self.state.close(self.absorbed, &self.block[..self.used], out);
+        let rest = &self.block[..self.used];
+        self.state.close(self.absorbed, rest, out);
         self.start();
     }
 

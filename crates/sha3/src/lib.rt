@@ -5,7 +5,6 @@ mod keccak;
 mod sponge;
 
 use hashes::stream::Stream;
-
 pub use sponge::Sponge;
 
 pub type Sha3 = Stream<Sponge, 72>;

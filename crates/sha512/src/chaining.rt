@@ -1,6 +1,6 @@
 // The chaining value as a block function.
 ghost use Rattle.std.specs.Prelude.{◌*◌, take};
-ghost use Rattle.std.proofs.Common.{arith};
+ghost use Rattle.std.proofs.Common.{lit<};
 ghost use Rattle.sha512.specs.Sha512.{sha2_rule, digest_from};
 ghost use Rattle.sha512.specs.Takes.{rule_length};
 
@@ -31,7 +31,7 @@ impl BlockFunction<128> for Chaining {
 
     ghost digest = { λ s k xs. take 32 (digest_from s.value (128 * k) xs) };
 
-    ghost long = { Prim.omega arith };
+    ghost long = { lit< tt };
 
     ghost wide = { rule_length };
 

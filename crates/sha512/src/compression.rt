@@ -140,6 +140,7 @@ fn add_words(h: &mut [u64; 8], v: &[u64; 8])
 }
 
 // The next chaining value, after h and a block.
+#[tactic(auto, unfolding(crate::specs::Sha512::compress))]
 pub(crate) fn compress_block(h: &mut [u64; 8], block: &[u8; 128])
     ensures { h.new ≡ compress h.old block.now }
 {

@@ -6,8 +6,7 @@ mod compression;
 mod functions;
 mod padding;
 
-use hashes::stream::Stream;
-
 pub use chaining::Chaining;
+use hashes::stream::Stream;
 
 pub type Sha2 = Stream<Chaining, 128>;

@@ -5,5 +5,5 @@ use Rattle.sha512.proofs.compression.words_of.Given as goal
 abbrev pub invariant-loop-i : goal.invariant-loop-i
 invariant-loop-i l = record {
   long : length l.w ≡ 80;
-  done : (k : ℕ) → k < l.i → get_or l.w k 0 ≡ big_endian (take 8 (drop (8 * k) l.block))
+  done : (k : ℕ) → k < l.i → get_or l.w k 0 ≡ big_endian (take 8 (drop (8 * k) l.block));
 }

@@ -15,6 +15,6 @@ pub returns-clause-more : goal.returns-clause-more
 returns-clause-more g c =
     let s = c.loop-self.self in
     fun_ext (λ xs.
-      after (g.B.BlockFunction.digest s.state s.absorbed) s.block c.copy_from_slice-2.new.self c.loop-self.rest.now xs s.used
-      (s.used + length c.loop-self.rest.now - s.used) (s.used + length c.loop-self.rest.now) c.copy_from_slice-2.ensures.after (omega arith) (omega arith)
-      ∙ c.loop-self.invariant.more xs)
+    after (g.B.BlockFunction.digest s.state s.absorbed) s.block c.copy_from_slice-2.new.self c.loop-self.rest.now xs s.used
+    (s.used + length c.loop-self.rest.now - s.used) (s.used + length c.loop-self.rest.now) c.copy_from_slice-2.ensures.after (omega arith) (omega arith)
+    ∙ c.loop-self.invariant.more xs)
