@@ -9,8 +9,9 @@ use std::alloc::AllocError;
 // How many bytes a hash can take.
 const CAPACITY: usize = 65536;
 
-// A function that absorbs a message block by block, each of N bytes. The digest of a state that has
-// absorbed so many blocks says, for each list of bytes that follow, which 32 bytes come of it all.
+// A function that absorbs a message block by block, each of N bytes. The rule says which 32 bytes
+// come of a message, and the digest of a state that has absorbed so many blocks, which come of it
+// all for each list of bytes that follow.
 pub trait BlockFunction<const N: usize>: Copy {
     ghost rule: { List ℕ → List ℕ };
 
@@ -60,8 +61,8 @@ impl<B: BlockFunction<N>, const N: usize> Copy for Stream<B, N> {}
 impl<B: BlockFunction<N>, const N: usize> Stream<B, N> {
     // A hash that has taken nothing.
     pub fn new() -> Self
-        ensures fresh { ⟦<Stream<B, N> as Hash>⟧.left result ≡ 65536 }
-        ensures ruled { ⟦<Stream<B, N> as Hash>⟧.outcome result ≡ B.rule }
+        ensures fresh { ⟦<Self as Hash>⟧.left result ≡ 65536 }
+        ensures ruled { ⟦<Self as Hash>⟧.outcome result ≡ B.rule }
     {
         Stream {
             state: B::begin(),
@@ -73,9 +74,9 @@ impl<B: BlockFunction<N>, const N: usize> Stream<B, N> {
 
     // Takes all of the bytes, and absorbs each block that they fill.
     fn push_all(&mut self, bytes: &[u8])
-        requires { N * self.old.absorbed + self.old.used + length bytes.now ≤ 65536 }
-        ensures more { ⟦<Stream<B, N> as Hash>⟧.outcome self.new ≡ (λ xs. ⟦<Stream<B, N> as Hash>⟧.outcome self.old (bytes.now ++ xs)) }
-        ensures count { N * self.new.absorbed + self.new.used ≡ N * self.old.absorbed + self.old.used + length bytes.now }
+        requires { length bytes.now ≤ ⟦<Self as Hash>⟧.left self.old }
+        ensures more { ⟦<Self as Hash>⟧.outcome self.new ≡ (λ xs. ⟦<Self as Hash>⟧.outcome self.old (bytes.now ++ xs)) }
+        ensures spent { ⟦<Self as Hash>⟧.left self.new ≡ ⟦<Self as Hash>⟧.left self.old - length bytes.now }
     {
         let mut rest = bytes;
         while rest.len() >= N - self.used {
