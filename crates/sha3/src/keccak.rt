@@ -117,6 +117,7 @@ fn round(a: &mut [u64; 25], rc: u64)
 }
 
 // The 24 rounds.
+#[tactic(auto, using(std::proofs::lemmas::List::Sums::fold_more), unfolding(crate::specs::Keccak::permuted, crate::specs::Keccak::constants))]
 pub fn permute(a: &mut [u64; 25])
     ensures { a.new ≡ permuted a.old }
 {

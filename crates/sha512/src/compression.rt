@@ -122,6 +122,7 @@ fn expand(w: &mut [u64; 80])
 }
 
 // The 80 rounds over the message schedule. A zip of the constants and the words was 5 % slower.
+#[tactic(auto, using(crate::proofs::Schedules::rounds_more), unfolding(crate::specs::Sha512::rounds, crate::specs::Sha512::constants))]
 fn all_rounds(v: &mut [u64; 8], w: &[u64; 80])
     ensures { v.new ≡ rounds v.old w.now 80 }
 {
@@ -131,6 +132,7 @@ fn all_rounds(v: &mut [u64; 8], w: &[u64; 80])
 }
 
 // Adds the words of v to those of h.
+#[tactic(auto, using(crate::proofs::Schedules::sums_all))]
 fn add_words(h: &mut [u64; 8], v: &[u64; 8])
     ensures { h.new ≡ sums h.old v.now }
 {

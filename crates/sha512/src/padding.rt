@@ -42,6 +42,7 @@ pub(crate) fn absorb_last(h: &mut [u64; 8], rest: &[u8], taken: usize)
 }
 
 // Byte i of the words of a chaining value.
+#[tactic(auto, using(crate::specs::Blocks::bytes_8))]
 fn byte_of(h: &[u64; 8], i: usize) -> u8
     requires { i < 64 }
     ensures { result ≡ byte_at h.now i }
