@@ -1,13 +1,13 @@
 // The labelled hash: a hash over every hash.
 ghost use Rattle.std.specs.Prelude.{◌≡◌, ◌+◌, ◌-◌, ◌≤◌, ◌++◌, length};
-ghost use Rattle.hashes.specs.Labels.{labelled, left_under};
-ghost use Rattle.std.proofs.Common.{rules};
+ghost use Rattle.hashes.specs.Labels.{labelled, labelled_length, left_under};
+ghost use Rattle.hashes.specs.Restarted.{Restarted};
 
 use crate::{Hash, take_all};
 use levels::faults::Fault;
 
 // The eight bytes that stand before what is taken.
-#[derive(Clone, Copy)]
+#[derive(Clone, Copy, Debug, PartialEq, Eq)]
 pub struct Label {
     pub bytes: [u8; 8],
 }
@@ -21,15 +21,15 @@ pub struct Labelled<H: Hash> {
 }
 
 impl<H: Hash> Hash for Labelled<H> {
-    ghost rule = { λ s. labelled (H.Hash.capacity s.below) s.label.bytes (H.Hash.rule s.below) };
+    ghost rule = { λ s. labelled (H.capacity s.below) s.label.bytes (H.rule s.below) };
 
-    ghost capacity = { λ s. H.Hash.capacity s.below - 8 };
+    ghost capacity = { λ s. H.capacity s.below - 8 };
 
-    ghost left = { λ s. left_under (H.Hash.capacity s.below) (H.Hash.left s.below) };
+    ghost left = { λ s. left_under (H.capacity s.below) (H.left s.below) };
 
-    ghost outcome = { λ s. H.Hash.outcome s.below };
+    ghost outcome = { λ s. H.outcome s.below };
 
-    ghost wide = { Prim.search rules };
+    ghost wide = { λ s. labelled_length (H.capacity s.below) s.label.bytes (H.rule s.below) 32 (H.wide s.below) };
 
     fn start(&mut self) {
         self.below.start();
@@ -65,12 +65,9 @@ pub fn digest<H: Hash>(
     second: &[u8],
     out: &mut [u8; 32],
 )
-    requires { 8 + (length first.now + length second.now) ≤ H.Hash.capacity hash.old }
-    ensures wrote { out.new ≡ H.Hash.rule hash.old (label.now ++ (first.now ++ second.now)) }
-    ensures fresh { H.Hash.left hash.new ≡ H.Hash.capacity hash.old }
-    ensures ruled { H.Hash.outcome hash.new ≡ H.Hash.rule hash.old }
-    ensures same { H.Hash.rule hash.new ≡ H.Hash.rule hash.old }
-    ensures kept { H.Hash.capacity hash.new ≡ H.Hash.capacity hash.old }
+    requires { 8 + (length first.now + length second.now) ≤ H.capacity hash.old }
+    ensures wrote { out.new ≡ H.rule hash.old (label.now ++ (first.now ++ second.now)) }
+    ensures restarted { Restarted H.capacity H.left H.rule H.outcome hash.old hash.new }
 {
     let mut over = Labelled {
         below: *hash,

@@ -2,9 +2,11 @@
 #![tactic(auto)]
 
 ghost use Rattle.std.specs.Prelude.{◌≡◌, ℕ, ◌-◌, ◌<◌, ◌≤◌, List, [], ◌++◌, length, Ok, Err};
+ghost use Rattle.hashes.specs.Restarted.{Restarted};
 ghost use Rattle.levels.specs.declared.faults.Fault.TheVariants.{SmallCapacity};
 
 pub mod labelled;
+pub mod stream;
 
 use levels::faults::Fault;
 
@@ -22,10 +24,7 @@ pub trait Hash: Copy {
 
     // Begins again: all of the capacity is left, and the outcome is the rule.
     fn start(&mut self)
-        ensures fresh { left self.new ≡ capacity self.old }
-        ensures ruled { outcome self.new ≡ rule self.old }
-        ensures same { rule self.new ≡ rule self.old }
-        ensures kept { capacity self.new ≡ capacity self.old };
+        ensures { Restarted capacity left rule outcome self.old self.new };
 
     // Takes more bytes, unless they are more than are left: then nothing changes.
     fn take(&mut self, bytes: &[u8]) -> Result<(), Fault>
@@ -36,10 +35,7 @@ pub trait Hash: Copy {
     // Writes the outcome of no further bytes, and begins again.
     fn finish(&mut self, out: &mut [u8; 32])
         ensures wrote { out.new ≡ outcome self.old [] }
-        ensures fresh { left self.new ≡ capacity self.old }
-        ensures ruled { outcome self.new ≡ rule self.old }
-        ensures same { rule self.new ≡ rule self.old }
-        ensures kept { capacity self.new ≡ capacity self.old };
+        ensures restarted { Restarted capacity left rule outcome self.old self.new };
 
     // The capacity.
     fn capacity(&self) -> usize
@@ -50,13 +46,11 @@ pub trait Hash: Copy {
 
 // Takes bytes that are known to be no more than are left.
 pub fn take_all<H: Hash>(hash: &mut H, bytes: &[u8])
-    requires { length bytes.now ≤ H.Hash.left hash.old }
-    ensures spent { H.Hash.left hash.new ≡ H.Hash.left hash.old - length bytes.now }
-    ensures joined { H.Hash.outcome hash.new ≡ (λ xs. H.Hash.outcome hash.old (bytes.now ++ xs)) }
-    ensures same { H.Hash.rule hash.new ≡ H.Hash.rule hash.old }
-    ensures kept { H.Hash.capacity hash.new ≡ H.Hash.capacity hash.old }
+    requires { length bytes.now ≤ H.left hash.old }
+    ensures spent { H.left hash.new ≡ H.left hash.old - length bytes.now }
+    ensures joined { H.outcome hash.new ≡ (λ xs. H.outcome hash.old (bytes.now ++ xs)) }
+    ensures same { H.rule hash.new ≡ H.rule hash.old }
+    ensures kept { H.capacity hash.new ≡ H.capacity hash.old }
 {
-    let Ok(()) = hash.take(bytes) else {
-        return;
-    };
+    hash.take(bytes).unwrap();
 }

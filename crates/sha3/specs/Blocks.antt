@@ -1,28 +1,18 @@
 -- The blocks of the sponge: their lanes, the padding, and the bytes of a state.
-use Rattle.std.specs.Prelude.{◌≡◌, ℕ, zero, suc, ◌+◌, ◌-◌, ◌*◌, ◌/◌, ◌%◌, ◌<◌, ◌≤◌, ◌⊎◌, List, [], ◌∷◌, ◌++◌, map, length, take, drop, set, bit_or, bit_xor, slice_index, slice_index_or, slice_set, refl}
-use Rattle.std.proofs.Common.{sym, ap, ap₂, ◌∙◌, append_assoc, inl, inr, add-zero, add-one, arith}
+use Rattle.std.specs.Prelude.{◌≡◌, ℕ, zero, suc, ◌+◌, ◌-◌, ◌*◌, ◌/◌, ◌%◌, ◌<◌, ◌≤◌, ◌⊎◌, List, [], ◌∷◌, ◌++◌, length, take, drop, set, bit_or, bit_xor, slice_index, slice_set, refl}
+use Rattle.std.proofs.Common.{sym, ap, ap₂, ◌∙◌, append_assoc, inl, inr, add-one, below_more, get_or-set_other, get_or-set_same, arith}
+use Rattle.std.specs.Int.{w64, from_le_bytes}
 use Rattle.std.specs.Int.Bits.{xor_zero_r}
-use Rattle.std.specs.List.{range_with_len}
 use Rattle.std.proofs.lemmas.List.FromFn.{fill_by_all}
-use Rattle.std.proofs.lemmas.List.{length-take, length-drop, length-append, length-replicate, get_or-take, get_or-drop, drop_all, set_at, get_or_at, replicate_more, get_or_append_left, get_or-append_right, ext_get_or}
+use Rattle.std.proofs.lemmas.List.{length-take, length-append, length-replicate, get_or-take, drop_all, set_at, get_or_at, replicate_more, get_or_append_left, get_or-append_right, ext_get_or}
 use Rattle.sha3.specs.Sponge.{zeros, lane_of, bytes_of, all_bytes, byte_at, mixed_at, mixed, padding, padded}
 use Rattle.sha3.specs.Lanes.{all_lanes}
 
-eight : (xs : List ℕ) (k : ℕ) → k + 8 ≤ length xs → take 8 (drop k xs) ≡ map (λ j. slice_index xs (k + j)) (range_with_len 0 8)
-eight xs k h =
-    fill_by_all (λ j. slice_index xs (k + j)) (take 8 (drop k xs)) 8 0 (simp (length-take, length-drop) (omega arith))
-    (λ j l. get_or-take 8 (drop k xs) j 0 l ∙ get_or-drop k xs j 0)
-
--- eight bytes in a row are a lane
-pub lane : (xs : List ℕ) (k : ℕ) → k + 8 ≤ length xs
-    → slice_index xs k + slice_index xs (k + 1) * 256 + slice_index xs (k + 2) * 65536 + slice_index xs (k + 3) * 16777216 + slice_index xs (k + 4) * 4294967296
-    + slice_index xs (k + 5) * 1099511627776 + slice_index xs (k + 6) * 281474976710656 + slice_index xs (k + 7) * 72057594037927936
-    ≡ lane_of (take 8 (drop k xs))
+-- eight bytes are a lane
+pub lane : (xs : List ℕ) → length xs ≡ 8 → from_le_bytes w64 xs ≡ lane_of xs
 unfolding lane_of
-lane xs k h =
-    let z : slice_index_or xs (k + 0) 0 ≡ slice_index_or xs k 0 = ap (λ j. slice_index xs j) (add-zero k) in
-    let e = ap lane_of (eight xs k h) in
-    omega (arith, e, z)
+lane xs n =
+    let e = ap lane_of (fill_by_all (λ j. slice_index xs j) xs 8 0 n (λ j h. refl)) in omega (arith, e)
 
 -- past the ninth lane a block gives nothing
 past : (a block : List ℕ) (k : ℕ) → length block ≡ 72 → 9 ≤ k → slice_index a k ≡ mixed_at a block k
@@ -30,6 +20,15 @@ unfolding lane_of
 past a block k n h =
     let d : drop (8 * k) block ≡ [] = drop_all (8 * k) block (omega arith) in
     sym (ap (λ (x : List ℕ). bit_xor (slice_index a k) (lane_of (take 8 x))) d ∙ xor_zero_r (slice_index a k))
+
+-- one more lane takes in its bytes of the block
+pub mixed_more : (a b block : List ℕ) (i x : ℕ) → i < length b → x ≡ lane_of (take 8 (drop (8 * i) block)) → slice_index b i ≡ slice_index a i
+    → ((k : ℕ) → k < i → slice_index b k ≡ mixed_at a block k)
+    → (k : ℕ) → k < i + 1 → slice_index (set b i (bit_xor (slice_index b i) x)) k ≡ mixed_at a block k
+mixed_more a b block i x h e s f =
+    let y : ℕ = bit_xor (slice_index b i) x in
+    below_more (λ k. slice_index (set b i y) k ≡ mixed_at a block k) i
+    (λ k l. get_or-set_other b i k y 0 (omega arith) ∙ f k l) (get_or-set_same b i y 0 h ∙ ap₂ bit_xor s e)
 
 -- a state whose first nine lanes have taken the block in
 pub mixed_all : (a b block : List ℕ) (i : ℕ) → i ≡ 9 → length block ≡ 72 → length b ≡ 25

@@ -1,15 +1,14 @@
--- What the outcome of a hash is after a byte, a block and the last block.
-use Rattle.std.specs.Prelude.{◌≡◌, ℕ, zero, suc, ◌+◌, ◌-◌, ◌/◌, ◌%◌, ◌<◌, List, [], ◌∷◌, ◌++◌, length, take, drop, set, fold, bit_xor, slice_index, slice_set, refl}
-use Rattle.std.proofs.Common.{sym, ap, ap₂, subst, ◌∙◌, append_assoc, arith}
-use Rattle.std.proofs.Math.Path.{fun_ext}
-use Rattle.std.proofs.lemmas.List.{length-take, length-append, take_all, take_at, drop_at, take_more_set, length-set, append-nil}
+-- What the sponge gives after a block and after the last block.
+use Rattle.std.specs.Prelude.{◌≡◌, ℕ, zero, suc, ◌+◌, ◌-◌, ◌/◌, ◌%◌, ◌<◌, List, [], ◌∷◌, ◌++◌, length, take, drop, fold, bit_xor, slice_index, refl}
+use Rattle.std.proofs.Common.{sym, ap, ap₂, ◌∙◌, append_assoc, arith}
+use Rattle.std.proofs.lemmas.List.{length-take, length-append, take_all, take_at, drop_at, length-set}
 use Rattle.sha3.specs.Keccak.{round, constants, permuted, theta, rho, pi, chi, chi_lane}
 use Rattle.sha3.specs.Sponge.{zeros, all_bytes, mixed_at, mixed, absorbed, padding, padded, sponge, sha3_rule}
 use Rattle.sha3.specs.Lanes.{length_lanes}
 use Rattle.sha3.specs.Blocks.{length_bytes}
 
 -- a whole block is absorbed first
-sponge_block : (a b xs : List ℕ) → length b ≡ 72 → sponge a (b ++ xs) ≡ sponge (permuted (mixed a b)) xs
+pub sponge_block : (a b xs : List ℕ) → length b ≡ 72 → sponge a (b ++ xs) ≡ sponge (permuted (mixed a b)) xs
 unfolding sponge absorbed padded
 sponge_block a b xs n =
     let l = length-append b xs in
@@ -21,46 +20,12 @@ sponge_block a b xs n =
 
 -- the padded rest is the last block
 pub sponge_last : (a m last : List ℕ) → length m < 72 → length last ≡ 72 → last ≡ padded m
-    → sponge a (m ++ []) ≡ take 64 (all_bytes (permuted (mixed a last)))
+    → sponge a m ≡ take 64 (all_bytes (permuted (mixed a last)))
 unfolding sponge absorbed
 sponge_last a m last h n e =
     let q : length m / 72 + 1 ≡ 1 = omega arith in
-    ap (sponge a) (append-nil m)
-    ∙ ap₂ (λ x y. take 64 (all_bytes (absorbed x a y))) q (sym e)
+    ap₂ (λ x y. take 64 (all_bytes (absorbed x a y))) q (sym e)
     ∙ ap (λ x. take 64 (all_bytes (permuted (mixed a x)))) (take_all 72 last (omega arith))
-
--- the outcome by a hash's parts
-abbrev outcome : List ℕ → List ℕ → ℕ → List ℕ → List ℕ
-outcome a block used xs = take 32 (sponge a (take used block ++ xs))
-
--- a byte into a block with more than one free, into the last free one, and a whole block
-pub push_more : (a block : List ℕ) (used b : ℕ) → used < length block
-    → outcome a (slice_set block used b) (used + 1) ≡ (λ xs. outcome a block used (b ∷ xs))
-push_more a block used b h =
-    fun_ext (λ xs. ap (take 32) (ap (λ x. sponge a (x ++ xs)) (take_more_set block used b h) ∙ ap (sponge a) (append_assoc (take used block) (b ∷ []) xs)))
-
-pub push_full : (a a' block : List ℕ) (used b : ℕ) → used ≡ 71 → length block ≡ 72 → a' ≡ permuted (mixed a (slice_set block used b))
-    → outcome a' (slice_set block used b) 0 ≡ (λ xs. outcome a block used (b ∷ xs))
-push_full a a' block used b u n e =
-    let k : used < length block = omega arith in
-    let w : length (slice_set block used b) ≡ 72 = length-set block used b ∙ n in
-    let t : take (used + 1) (slice_set block used b) ≡ set block used b = take_all (used + 1) (slice_set block used b) (omega arith) in
-    fun_ext (λ xs. ap (take 32) (ap (λ x. sponge x xs) e ∙ sym (sponge_block a (slice_set block used b) xs w)
-    ∙ ap (λ x. sponge a (x ++ xs)) (sym t ∙ take_more_set block used b k)
-    ∙ ap (sponge a) (append_assoc (take used block) (b ∷ []) xs)))
-
-pub push_block : (a a' block b : List ℕ) (used : ℕ) → used ≡ 0 → length b ≡ 72 → a' ≡ permuted (mixed a b)
-    → outcome a' block used ≡ (λ xs. outcome a block used (b ++ xs))
-push_block a a' block b used u n e =
-    let P : ℕ → Type 0 = λ k. outcome a' block k ≡ (λ xs. outcome a block k (b ++ xs)) in
-    subst P (sym u) (fun_ext (λ xs. ap (take 32) (ap (λ x. sponge x xs) e ∙ sym (sponge_block a b xs n))))
-
--- f is the outcome before the bytes m, g that after them, and h that after the bytes n too
-pub pushed_more : (f g h : List ℕ → List ℕ) (m n all : List ℕ) → g ≡ (λ xs. f (m ++ xs)) → h ≡ (λ xs. g (n ++ xs)) → all ≡ m ++ n
-    → h ≡ (λ xs. f (all ++ xs))
-pushed_more f g h m n all e d is =
-    d ∙ ap {B = List ℕ → List ℕ} (λ (k : List ℕ → List ℕ) xs. k (n ++ xs)) e
-    ∙ fun_ext (λ xs. ap f (sym (append_assoc m n xs) ∙ ap (λ x. x ++ xs) (sym is)))
 
 -- the rule gives 32 bytes
 round_length : (a : List ℕ) (rc : ℕ) → length (round a rc) ≡ 25

@@ -1,7 +1,6 @@
 -- The sponge of SHA3-512, with a rate of 72 bytes, which are 9 lanes.
 use Rattle.std.specs.Prelude.{ℕ, zero, suc, ◌+◌, ◌-◌, ◌*◌, ◌/◌, ◌%◌, ◌^◌, List, [], ◌∷◌, ◌++◌, length, take, drop, replicate, bit_xor, slice_index}
 use Rattle.sha3.specs.Keccak.{lanes, permuted}
-use Rattle.sha3.specs.declared.Sha3.{Sha3}
 
 abbrev pub zeros : ℕ → List ℕ
 zeros n = replicate n 0
@@ -55,7 +54,3 @@ sha3 m = sponge (zeros 25) m
 -- the rule of the hash: the first 32 bytes of SHA3-512
 abbrev pub sha3_rule : List ℕ → List ℕ
 sha3_rule m = take 32 (sha3 m)
-
--- which 32 bytes a hash gives after the further bytes xs: the bytes of its block that are in use come before them
-abbrev pub outcome_of : Sha3 → List ℕ → List ℕ
-outcome_of s xs = take 32 (sponge s.state (take s.used s.block ++ xs))

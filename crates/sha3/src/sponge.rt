@@ -1,61 +1,63 @@
-// The blocks of the sponge: the rate is 72 bytes, which are nine lanes.
-ghost use Rattle.std.specs.Prelude.{◌≡◌, ◌-◌, ◌*◌, ◌<◌, ◌++◌, length, take, drop};
+// The sponge: the rate is 72 bytes, which are nine lanes.
+ghost use Rattle.std.specs.Prelude.{◌≡◌, ◌<◌, length, take};
 ghost use Rattle.sha3.specs.Keccak.{permuted};
-ghost use Rattle.sha3.specs.Sponge.{zeros, lane_of, mixed, padded, byte_at, all_bytes};
+ghost use Rattle.sha3.specs.Sponge.{sponge, sha3_rule, mixed, padded, byte_at, all_bytes};
+ghost use Rattle.sha3.specs.Outcomes.{rule_length};
+ghost use Rattle.std.proofs.Common.{lit<};
 
 use crate::keccak::permute;
+use hashes::stream::BlockFunction;
 
-// The lane i of a block.
-fn lane_of(block: &[u8], i: usize) -> u64
-    requires long { length block.now ≡ 72 }
-    requires low { i < 9 }
-    ensures { result ≡ lane_of (take 8 (drop (8 * i) block.now)) }
-{
-    let k = 8 * i;
-    u64::from_le_bytes([
-        block[k],
-        block[k + 1],
-        block[k + 2],
-        block[k + 3],
-        block[k + 4],
-        block[k + 5],
-        block[k + 6],
-        block[k + 7],
-    ])
+// The lanes of the state.
+#[derive(Clone, Copy)]
+pub struct Sponge {
+    state: [u64; 25],
+}
+
+impl BlockFunction<72> for Sponge {
+    ghost rule = { sha3_rule };
+
+    ghost digest = { λ s _ xs. take 32 (sponge s.state xs) };
+
+    ghost long = { lit< tt };
+
+    ghost wide = { rule_length };
+
+    fn begin() -> Self {
+        Sponge { state: [0; 25] }
+    }
+
+    fn absorb(&mut self, block: &[u8; 72]) {
+        absorb(&mut self.state, block);
+    }
+
+    fn close(&mut self, _: usize, rest: &[u8], out: &mut [u8; 32]) {
+        absorb(&mut self.state, &pad(rest));
+        squeeze(&self.state, out);
+    }
 }
 
 // Adds a block to the first nine lanes, and permutes the state.
-pub fn absorb(a: &mut [u64; 25], block: &[u8])
-    requires { length block.now ≡ 72 }
+fn absorb(a: &mut [u64; 25], block: &[u8; 72])
     ensures { a.new ≡ permuted (mixed a.old block.now) }
 {
-    for i in 0..9 {
-        a[i] ^= lane_of(block, i);
+    let (lanes, _) = block.as_chunks::<8>();
+    for (i, lane) in lanes.iter().enumerate() {
+        a[i] ^= u64::from_le_bytes(*lane);
     }
     permute(a);
 }
 
-// The bytes in use, and then zeros.
-fn front(block: &[u8; 72], used: usize) -> [u8; 72]
-    requires { used < 72 }
-    ensures { result ≡ take used block.now ++ zeros (72 - used) }
+// The last block: the rest of the message, the suffix 01 and pad10*1.
+fn pad(rest: &[u8]) -> [u8; 72]
+    requires { length rest.now < 72 }
+    ensures { result ≡ padded rest.now }
 {
-    let mut out = [0; 72];
-    for i in 0..used {
-        out[i] = block[i];
-    }
-    out
-}
-
-// The last block: the bytes in use, the suffix 01 and pad10*1.
-pub fn pad(block: &[u8; 72], used: usize) -> [u8; 72]
-    requires { used < 72 }
-    ensures { result ≡ padded (take used block.now) }
-{
-    let mut out = front(block, used);
-    out[used] = 0x06;
-    out[71] |= 0x80;
-    out
+    let mut last = [0; 72];
+    last[..rest.len()].copy_from_slice(rest);
+    last[rest.len()] = 0x06;
+    last[71] |= 0x80;
+    last
 }
 
 // The byte i of a state.
@@ -67,10 +69,10 @@ fn byte_of(a: &[u64; 25], i: usize) -> u8
 }
 
 // The first 32 of the 64 bytes that SHA3-512 squeezes.
-pub fn squeeze(a: &[u64; 25], out: &mut [u8; 32])
+fn squeeze(a: &[u64; 25], out: &mut [u8; 32])
     ensures { out.new ≡ take 32 (take 64 (all_bytes a.now)) }
 {
-    for i in 0..32 {
-        out[i] = byte_of(a, i);
+    for (i, byte) in out.iter_mut().enumerate() {
+        *byte = byte_of(a, i);
     }
 }

@@ -1,4 +1,3 @@
 pub mod Sha512
-pub mod State
 pub mod Takes
 pub mod Blocks

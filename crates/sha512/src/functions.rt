@@ -1,4 +1,6 @@
 // The functions of a word and the round of SHA-512.
+#![tactic(auto, unfolding(crate::specs::Sha512::ch, crate::specs::Sha512::maj, crate::specs::Sha512::big_sigma0, crate::specs::Sha512::big_sigma1, crate::specs::Sha512::small_sigma0, crate::specs::Sha512::small_sigma1, crate::specs::Sha512::round))]
+
 ghost use Rattle.std.specs.Prelude.{◌≡◌};
 ghost use Rattle.sha512.specs.Sha512.{big_sigma0, big_sigma1, small_sigma0, small_sigma1, ch, maj, round};
 

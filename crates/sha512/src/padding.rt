@@ -1,19 +1,17 @@
 // The end of a message: the padding, and the bytes of the last chaining value.
-ghost use Rattle.std.specs.Prelude.{◌≡◌, ◌-◌, ◌*◌, ◌%◌, ◌<◌, ◌∷◌, ◌++◌, take, replicate};
+ghost use Rattle.std.specs.Prelude.{◌≡◌, ◌-◌, ◌*◌, ◌%◌, ◌<◌, ◌∷◌, ◌++◌, length, take, replicate};
 ghost use Rattle.sha512.specs.Sha512.{bytes_of, padding, absorb, digest, byte_at};
 
 use crate::compression::compress_block;
 
-// The bytes of a block that are in use, a bit 1, and bits 0 to the end of the block.
-fn closed(block: &[u8; 128], used: usize) -> [u8; 128]
-    requires { used < 128 }
-    ensures { result ≡ take used block.now ++ 128 ∷ replicate (127 - used) 0 }
+// The rest of a message, a bit 1, and bits 0 to the end of the block.
+fn closed(rest: &[u8]) -> [u8; 128]
+    requires { length rest.now < 128 }
+    ensures { result ≡ rest.now ++ 128 ∷ replicate (127 - length rest.now) 0 }
 {
     let mut last = [0; 128];
-    for i in 0..used {
-        last[i] = block[i];
-    }
-    last[used] = 128;
+    last[..rest.len()].copy_from_slice(rest);
+    last[rest.len()] = 128;
     last
 }
 
@@ -22,19 +20,17 @@ fn put_length(block: &mut [u8; 128], n: usize)
     ensures { block.new ≡ take 112 block.old ++ bytes_of 16 (8 * n) }
 {
     let bits = (8 * n as u128).to_be_bytes();
-    for i in 0..16 {
-        block[112 + i] = bits[i];
-    }
+    block[112..].copy_from_slice(&bits);
 }
 
-// The last chaining value of a message of so many bytes, of which those past the last whole block
-// stand at the front of the block: the padding ends that block, or the one after it.
-pub(crate) fn absorb_last(h: &mut [u64; 8], block: &[u8; 128], taken: usize)
-    ensures { h.new ≡ absorb h.old (take (taken % 128) block.now ++ padding taken) }
+// The last chaining value of a message of so many bytes, of which these are past the last whole
+// block: the padding ends that block, or the one after it.
+pub(crate) fn absorb_last(h: &mut [u64; 8], rest: &[u8], taken: usize)
+    requires { length rest.now ≡ taken % 128 }
+    ensures { h.new ≡ absorb h.old (rest.now ++ padding taken) }
 {
-    let used = taken % 128;
-    let mut last = closed(block, used);
-    if used < 112 {
+    let mut last = closed(rest);
+    if rest.len() < 112 {
         put_length(&mut last, taken);
         compress_block(h, &last);
     } else {
@@ -46,6 +42,7 @@ pub(crate) fn absorb_last(h: &mut [u64; 8], block: &[u8; 128], taken: usize)
 }
 
 // Byte i of the words of a chaining value.
+#[tactic(auto, using(crate::specs::Blocks::bytes_8))]
 fn byte_of(h: &[u64; 8], i: usize) -> u8
     requires { i < 64 }
     ensures { result ≡ byte_at h.now i }
@@ -57,7 +54,7 @@ fn byte_of(h: &[u64; 8], i: usize) -> u8
 pub(crate) fn write_digest(h: &[u64; 8], out: &mut [u8; 32])
     ensures { out.new ≡ take 32 (digest h.now) }
 {
-    for i in 0..32 {
-        out[i] = byte_of(h, i);
+    for (i, byte) in out.iter_mut().enumerate() {
+        *byte = byte_of(h, i);
     }
 }

@@ -1,6 +1,0 @@
-use Rattle.sha3.specs.Keccak.{lanes}
-use Rattle.sha3.proofs.keccak.chi.Goals as goal
-
-pub returns : goal.returns
-unfolding lanes
-returns c = cc
