@@ -47,7 +47,7 @@ fn add_chosen<F: BinaryField>(g: &[u16], x: u16, chosen: bool, sum: &mut [u16], 
     requires fits { (length g.now ≡ length sum.old + 1) × ((length col.old ≡ length sum.old) × (1 ≤ length sum.old)) }
     requires off { (value F.Field.ops F.Field.places g.now) (F.Field.places.at x) ≢ F.Field.ops.zero }
     ensures sum { (r : ℕ) → r < length sum.old → (coefs F.Field.places sum.new) r ≡ F.Field.ops.add ((coefs F.Field.places sum.old) r) (if chosen then F.Field.places.at (column_place F.Field.ops F.Field.places (length sum.old) g.now x r) else F.Field.ops.zero) }
-    ensures placed { Placed F.Field.bits sum.old → Placed F.Field.bits sum.new }
+    ensures placed { Placed F.Field.BITS sum.old → Placed F.Field.BITS sum.new }
 {
     if !chosen {
         return;
@@ -92,8 +92,8 @@ pub fn is_error<F: BinaryField>(
 ) -> bool
     requires fits { (length g.now ≡ length s.now + 1) × ((length sum.old ≡ length s.now) × ((length col.old ≡ length s.now) × ((1 ≤ length s.now) × (length support.now ≡ 8 * length e.now)))) }
     requires off { (j : ℕ) → j < length support.now → (value F.Field.ops F.Field.places g.now) (F.Field.places.at (slice_index support.now j)) ≢ F.Field.ops.zero }
-    requires syndrome { (Placed F.Field.bits s.now) × (0 < F.Field.bits) }
-    ensures { Decides result (ErrorOf F.Field.ops F.Field.places (length s.now) g.now support.now (bits_of F.Field.bits s.now) (vector e.now)) }
+    requires syndrome { (Placed F.Field.BITS s.now) × (0 < F.Field.BITS) }
+    ensures { Decides result (ErrorOf F.Field.ops F.Field.places (length s.now) g.now support.now (bits_of F.Field.BITS s.now) (vector e.now)) }
 {
     if weight_of(e, support.len()) != s.len() {
         return false;

@@ -28,9 +28,9 @@ fn decode_places<F: BinaryField>(
     t: usize,
 ) -> bool
     requires code { (((zeros : List ℕ) × CodeOf F.Field.ops F.Field.places t g.now support.now zeros)) × ((length g.now ≡ t + 1) × ((2 ≤ t) × (1 ≤ length support.now))) }
-    requires syndrome { (length s.now ≡ t) × ((Placed F.Field.bits s.now) × (0 < F.Field.bits)) }
+    requires syndrome { (length s.now ≡ t) × ((Placed F.Field.BITS s.now) × (0 < F.Field.BITS)) }
     requires fits { (length support.now ≡ 8 * length out.old) × ((length l.old ≡ 2 * (t / 2 + 1)) × ((length support.now ≤ length work.old) × (17 * (t + 1) ≤ length work.old))) }
-    ensures { elim result [ true ↦ OnlyError F.Field.ops F.Field.places t g.now support.now (bits_of F.Field.bits s.now) (vector out.new) | false ↦ NoError F.Field.ops F.Field.places t g.now support.now (bits_of F.Field.bits s.now) × (out.new ≡ replicate (length out.old) 0) ] }
+    ensures { elim result [ true ↦ OnlyError F.Field.ops F.Field.places t g.now support.now (bits_of F.Field.BITS s.now) (vector out.new) | false ↦ NoError F.Field.ops F.Field.places t g.now support.now (bits_of F.Field.BITS s.now) × (out.new ≡ replicate (length out.old) 0) ] }
 {
     if !locate_within::<F>(g, s, l, work, t) {
         out.fill(0);
@@ -56,8 +56,8 @@ pub fn decode<F: BinaryField>(
     t: usize,
 ) -> bool
     requires code { (((zeros : List ℕ) × CodeOf F.Field.ops F.Field.places t g.now support.now zeros)) × ((length g.now ≡ t + 1) × ((2 ≤ t) × (1 ≤ length support.now))) }
-    requires field { (0 < F.Field.bits) × ((F.Field.bits ≤ 16) × (F.Field.bits * t < 2 ^ 32)) }
-    requires fits { (F.Field.bits * t ≤ 8 * length syndrome.now) × (length support.now ≡ 8 * length out.old) }
+    requires field { (0 < F.Field.BITS) × ((F.Field.BITS ≤ 16) × (F.Field.BITS * t < 2 ^ 32)) }
+    requires fits { (F.Field.BITS * t ≤ 8 * length syndrome.now) × (length support.now ≡ 8 * length out.old) }
     requires work { (t + 2 * (t / 2 + 1) + length support.now ≤ length work.old) × (t + 2 * (t / 2 + 1) + 17 * (t + 1) ≤ length work.old) }
     ensures { elim result [ true ↦ OnlyError F.Field.ops F.Field.places t g.now support.now (vector syndrome.now) (vector out.new) | false ↦ NoError F.Field.ops F.Field.places t g.now support.now (vector syndrome.now) × (out.new ≡ replicate (length out.old) 0) ] }
 {

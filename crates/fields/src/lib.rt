@@ -3,7 +3,6 @@
 
 ghost use Rattle.std.specs.Prelude.{◌≡◌, true, false, ◌≢◌};
 
-pub mod degree;
 pub mod field;
 
 use field::Field;

@@ -14,7 +14,7 @@ use polys::arithmetic::clear;
 pub fn times_linear<F: BinaryField>(p: &mut [u16], a: F)
     requires { (1 ≤ length p.old) × (Below F.Field.ops (length p.old - 1) (coefs F.Field.places p.old)) }
     ensures product { coefs F.Field.places p.new ≡ (poly F.Field.ops).mul (linear F.Field.ops a) (coefs F.Field.places p.old) }
-    ensures written { AllPlaces F.Field.bits p.new }
+    ensures written { AllPlaces F.Field.BITS p.new }
 {
     let mut before = F::zero();
     for i in 0..p.len() {
@@ -31,7 +31,7 @@ pub fn goppa_polynomial<F: BinaryField>(zeros: &[u16], g: &mut [u16])
     ensures monic { Monic F.Field.ops (length zeros.now) (coefs F.Field.places g.new) }
     ensures values { (x : F) → value F.Field.ops F.Field.places g.new x ≡ differences F.Field.ops (map F.Field.places.at zeros.now) x }
     ensures zeros { Zeros F.Field.ops F.Field.places (value F.Field.ops F.Field.places g.new) zeros.now }
-    ensures written { AllPlaces F.Field.bits g.new }
+    ensures written { AllPlaces F.Field.BITS g.new }
 {
     clear(g);
     g[0] = F::one().place();

@@ -36,7 +36,7 @@ pub fn degree<F: BinaryField>(p: &[u16]) -> Option<usize>
 pub fn add<F: BinaryField>(into: &mut [u16], p: &[u16])
     requires { length p.now ≤ length into.old }
     ensures is { coefs F.Field.places into.new ≡ (poly F.Field.ops).add (coefs F.Field.places into.old) (coefs F.Field.places p.now) }
-    ensures placed { Placed F.Field.bits into.old → Placed F.Field.bits into.new }
+    ensures placed { Placed F.Field.BITS into.old → Placed F.Field.BITS into.new }
 {
     for i in 0..p.len() {
         let x = read::<F>(into[i]);
@@ -48,7 +48,7 @@ pub fn add<F: BinaryField>(into: &mut [u16], p: &[u16])
 pub fn add_multiple<F: BinaryField>(into: &mut [u16], p: &[u16], c: F)
     requires { length p.now ≤ length into.old }
     ensures is { coefs F.Field.places into.new ≡ (poly F.Field.ops).add (coefs F.Field.places into.old) ((poly F.Field.ops).mul (mono F.Field.ops c 0) (coefs F.Field.places p.now)) }
-    ensures placed { Placed F.Field.bits into.old → Placed F.Field.bits into.new }
+    ensures placed { Placed F.Field.BITS into.old → Placed F.Field.BITS into.new }
 {
     for i in 0..p.len() {
         let x = read::<F>(into[i]);
@@ -61,7 +61,7 @@ pub fn add_multiple<F: BinaryField>(into: &mut [u16], p: &[u16], c: F)
 pub fn add_scaled<F: BinaryField>(into: &mut [u16], p: &[u16], c: F, shift: usize)
     requires { shift + length p.now ≤ length into.old }
     ensures is { coefs F.Field.places into.new ≡ (poly F.Field.ops).add (coefs F.Field.places into.old) ((poly F.Field.ops).mul (mono F.Field.ops c shift) (coefs F.Field.places p.now)) }
-    ensures placed { Placed F.Field.bits into.old → Placed F.Field.bits into.new }
+    ensures placed { Placed F.Field.BITS into.old → Placed F.Field.BITS into.new }
 {
     add_multiple(&mut into[shift..], p, c);
 }
@@ -70,7 +70,7 @@ pub fn add_scaled<F: BinaryField>(into: &mut [u16], p: &[u16], c: F, shift: usiz
 pub fn product<F: BinaryField>(out: &mut [u16], p: &[u16], q: &[u16])
     requires { length p.now + length q.now ≤ length out.old + 1 }
     ensures is { coefs F.Field.places out.new ≡ (poly F.Field.ops).mul (coefs F.Field.places p.now) (coefs F.Field.places q.now) }
-    ensures placed { Placed F.Field.bits out.new }
+    ensures placed { Placed F.Field.BITS out.new }
 {
     clear(out);
     for i in 0..p.len() {
@@ -94,7 +94,7 @@ pub fn leading_inverse<F: BinaryField>(p: &[u16], n: usize) -> F
 // degree of the divisor; absent where the divisor is zero.
 pub fn divide<F: BinaryField>(rem: &mut [u16], quot: &mut [u16], d: &[u16]) -> Option<usize>
     requires { length rem.old ≤ length quot.old }
-    ensures { MatchOption result ((coefs F.Field.places d.now ≡ (poly F.Field.ops).zero) × (rem.new ≡ rem.old) × (quot.new ≡ quot.old)) (λ n. Division F.Field.ops n (coefs F.Field.places rem.old) (coefs F.Field.places d.now) (coefs F.Field.places quot.new) (coefs F.Field.places rem.new) × Placed F.Field.bits quot.new × (Placed F.Field.bits rem.old → Placed F.Field.bits rem.new)) }
+    ensures { MatchOption result ((coefs F.Field.places d.now ≡ (poly F.Field.ops).zero) × (rem.new ≡ rem.old) × (quot.new ≡ quot.old)) (λ n. Division F.Field.ops n (coefs F.Field.places rem.old) (coefs F.Field.places d.now) (coefs F.Field.places quot.new) (coefs F.Field.places rem.new) × Placed F.Field.BITS quot.new × (Placed F.Field.BITS rem.old → Placed F.Field.BITS rem.new)) }
 {
     let Some(k) = degree::<F>(d) else {
         return None;
@@ -112,7 +112,7 @@ pub fn divide<F: BinaryField>(rem: &mut [u16], quot: &mut [u16], d: &[u16]) -> O
 // Multiplies every coefficient by c.
 pub fn scale<F: BinaryField>(p: &mut [u16], c: F)
     ensures is { coefs F.Field.places p.new ≡ (poly F.Field.ops).mul (mono F.Field.ops c 0) (coefs F.Field.places p.old) }
-    ensures placed { Placed F.Field.bits p.new }
+    ensures placed { Placed F.Field.BITS p.new }
 {
     for i in 0..p.len() {
         p[i] = c.product(read::<F>(p[i])).place();
@@ -123,7 +123,7 @@ pub fn scale<F: BinaryField>(p: &mut [u16], c: F)
 pub fn make_monic<F: BinaryField>(p: &mut [u16], n: usize)
     requires { (n < length p.old) × (Degree F.Field.ops n (coefs F.Field.places p.old)) }
     ensures is { coefs F.Field.places p.new ≡ (poly F.Field.ops).mul (mono F.Field.ops (F.Field.ops.inv (coefs F.Field.places p.old n)) 0) (coefs F.Field.places p.old) }
-    ensures placed { Placed F.Field.bits p.new }
+    ensures placed { Placed F.Field.BITS p.new }
 {
     let e = leading_inverse::<F>(p, n);
     scale(p, e);

@@ -78,7 +78,7 @@ pub fn gcd<F: BinaryField>(
     requires degree { Degree F.Field.ops top (coefs F.Field.places s.old) }
     requires under { Below F.Field.ops top (coefs F.Field.places r.old) }
     ensures is { Gcd F.Field.ops top result (coefs F.Field.places s.old) (coefs F.Field.places r.old) (coefs F.Field.places s.new) }
-    ensures placed { Placed F.Field.bits s.new }
+    ensures placed { Placed F.Field.BITS s.new }
 {
     let n = euclid::<F>(s, r, a, b, top, 0);
     make_monic::<F>(s, n);
@@ -97,7 +97,7 @@ pub fn inverse<F: BinaryField>(
     requires fits { (1 ≤ top) × ((top < length s.old) × ((length r.old ≡ length s.old) × ((length b.old ≡ length a.old) × (top ≤ length a.old)))) }
     requires degree { Degree F.Field.ops top (coefs F.Field.places s.old) }
     requires under { Below F.Field.ops top (coefs F.Field.places r.old) }
-    ensures { elim result [ true ↦ Inverse F.Field.ops top (coefs F.Field.places s.old) (coefs F.Field.places r.old) (coefs F.Field.places b.new) × Placed F.Field.bits b.new | false ↦ Shared F.Field.ops (coefs F.Field.places s.old) (coefs F.Field.places r.old) ] }
+    ensures { elim result [ true ↦ Inverse F.Field.ops top (coefs F.Field.places s.old) (coefs F.Field.places r.old) (coefs F.Field.places b.new) × Placed F.Field.BITS b.new | false ↦ Shared F.Field.ops (coefs F.Field.places s.old) (coefs F.Field.places r.old) ] }
 {
     euclid::<F>(s, r, a, b, top, 1);
     let Some(e) = read::<F>(r[0]).inverse() else {

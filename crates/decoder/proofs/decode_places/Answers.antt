@@ -24,7 +24,7 @@ returns-then-not-locate_within g c =
     let zs = c.requires.code.0.0 in
     let code = c.requires.code.0.1 in
     let some = c.requires.code.1.1.1 in (
-      none_left (perfect g) pl g.met.F.Field.origin g.met.F.Field.sums t G sup zs s (bits_of g.F.Field.bits s) c.requires.code.1.0 c.requires.syndrome.0 some
+      none_left (perfect g) pl g.met.F.Field.origin g.met.F.Field.sums t G sup zs s (bits_of g.F.Field.BITS s) c.requires.code.1.0 c.requires.syndrome.0 some
           c.requires.syndrome.1.1 c.requires.syndrome.1.0 (λ i l. refl) code
           (c.if-not-locate_within.ensures (map pl.at zs) (map pl.at sup) (goppa_code f pl t G sup zs some code)),
       search rules,
@@ -42,7 +42,7 @@ returns-then-not-is_error g c =
     let code = c.requires.code.0.1 in
     let some = c.requires.code.1.1.1 in
     let e = vector c.mark_zeros.new.out in
-    let is = bits_of g.F.Field.bits s in (
+    let is = bits_of g.F.Field.BITS s in (
       refused (perfect g) pl g.met.F.Field.origin g.met.F.Field.sums t G sup zs s is c.requires.code.1.0 c.requires.syndrome.0 some
           c.requires.syndrome.1.1 c.requires.syndrome.1.0 (λ i l. refl) code
           (value f pl c.locate_within.new.out) (c.if-not-locate_within.ensures (map pl.at zs) (map pl.at sup) (goppa_code f pl t G sup zs some code))
@@ -63,7 +63,7 @@ returns g c =
     let code = c.requires.code.0.1 in
     let some = c.requires.code.1.1.1 in
     let e = vector c.mark_zeros.new.out in
-    let is = bits_of g.F.Field.bits s in
+    let is = bits_of g.F.Field.BITS s in
     accepted (perfect g) pl g.met.F.Field.origin g.met.F.Field.sums t G sup zs s is c.requires.code.1.0 c.requires.syndrome.0 some
     c.requires.syndrome.1.1 c.requires.syndrome.1.0 (λ i l. refl) code
     (value f pl c.locate_within.new.out) (c.if-not-locate_within.ensures (map pl.at zs) (map pl.at sup) (goppa_code f pl t G sup zs some code))

@@ -4,11 +4,10 @@ ghost use Rattle.field64.specs.Model.{at64, places64, ops64};
 ghost use Rattle.field64.specs.Laws.{laws64, roots64};
 ghost use Rattle.std.specs.Int.Bits.{bit_xor};
 ghost use Rattle.std.proofs.lemmas.Nat.{xor_lt};
-ghost use Rattle.std.proofs.Common.{rules, arith};
+ghost use Rattle.std.proofs.Common.{refl};
 
 use super::E64;
 use crate::tables::{inverse_of, root_of, times};
-use fields::degree::Six;
 use fields::field::{BinaryField, Field};
 
 // The element at a place.
@@ -20,21 +19,17 @@ fn element(place: u16) -> E64
 }
 
 impl Field for E64 {
-    type Degree = Six;
+    const BITS: u32 = 6;
 
-    const DEGREE: Six = Six;
-
-    ghost bits = { 6 };
+    ghost BITS = { 6 };
 
     ghost ops = { ops64 };
 
     ghost places = { places64 };
 
-    ghost degree = { first_of (Prim.search rules, Prim.grind (arith, Self.row.coded.inj)) };
-
     ghost laws = { laws64 };
 
-    ghost origin = { first_of (Prim.search rules, Prim.grind (arith, Self.row.coded.inj)) };
+    ghost origin = { refl };
 
     ghost sums = { λ x y. places64.num_at (bit_xor x.place y.place) (xor_lt 6 x.place y.place x.below y.below) };
 

@@ -3,11 +3,10 @@ ghost use Rattle.std.specs.Prelude.{◌≡◌, ◌<◌, bit_xor};
 ghost use Rattle.field8192.specs.Model.{at8192, places8192, ops8192};
 ghost use Rattle.field8192.specs.Laws.{laws8192, roots8192};
 ghost use Rattle.std.proofs.lemmas.Nat.{xor_lt};
-ghost use Rattle.std.proofs.Common.{rules, arith};
+ghost use Rattle.std.proofs.Common.{refl};
 
 use super::E8192;
 use crate::shifts::{inverse_of, root_of, times};
-use fields::degree::Thirteen;
 use fields::field::{BinaryField, Field};
 
 // The element at a place.
@@ -19,21 +18,17 @@ fn element(place: u16) -> E8192
 }
 
 impl Field for E8192 {
-    type Degree = Thirteen;
+    const BITS: u32 = 13;
 
-    const DEGREE: Thirteen = Thirteen;
-
-    ghost bits = { 13 };
+    ghost BITS = { 13 };
 
     ghost ops = { ops8192 };
 
     ghost places = { places8192 };
 
-    ghost degree = { first_of (Prim.search rules, Prim.grind (arith, Self.row.coded.inj)) };
-
     ghost laws = { laws8192 };
 
-    ghost origin = { first_of (Prim.search rules, Prim.grind (arith, Self.row.coded.inj)) };
+    ghost origin = { refl };
 
     ghost sums = { λ x y. places8192.num_at (bit_xor x.place y.place) (xor_lt 13 x.place y.place x.below y.below) };
 

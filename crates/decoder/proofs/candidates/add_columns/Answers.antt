@@ -17,7 +17,7 @@ loop-j-init g c =
     let pl = g.F.Field.places in
     let n = length c.args.sum.now in (
       λ r l. ap (λ (s : Series g.row.F.Denot). s r) (ap (coefs pl) c.clear.ensures ∙ coefs_zeros k pl g.met.F.Field.origin n) ∙ at_zero k r,
-      placed_zeros g.F.Field.bits n _ c.clear.ensures,
+      placed_zeros g.F.Field.BITS n _ c.clear.ensures,
     )
 
 pub loop-j-preserved : goal.loop-j-preserved

@@ -22,7 +22,7 @@ loop-i-init g c =
     let none : coefs pl cleared ≡ (poly f).zero = ap (coefs pl) c.clear.ensures ∙ coefs_zeros k pl z (length c.args.g.now) in
     let wrote = write_new k pl z cleared 0 c.place.result c.one.result (omega arith) (ap (λ l. get_or l 0 0) c.clear.ensures ∙ get_d_zeros (length c.args.g.now) 0) c.place.ensures in (
       one_write k (coefs pl cleared) _ none (wrote ∙ ap (λ x. (poly f).add (coefs pl cleared) (mono f x 0)) c.one.ensures) ∙ sym (from_none k pl z c.args.zeros.now),
-      λ j. one_place c.place.result (length c.args.g.now) cleared (2 ^ g.F.Field.bits) c.clear.ensures (subst (λ (x : ℕ). x < 2 ^ g.F.Field.bits) (sym c.place.ensures) (pl.num_below c.one.result)) (pow_pos g.F.Field.bits) j,
+      λ j. one_place c.place.result (length c.args.g.now) cleared (2 ^ g.F.Field.BITS) c.clear.ensures (subst (λ (x : ℕ). x < 2 ^ g.F.Field.BITS) (sym c.place.ensures) (pl.num_below c.one.result)) (pow_pos g.F.Field.BITS) j,
     )
 
 -- before a turn the last coefficient is zero

@@ -15,7 +15,7 @@ loop-n-init g c =
     let z = g.met.F.Field.origin in
     let e₁ = coefs_zeros k pl z (length c.args.quot.now) in
     let e₂ = solve (poly_laws k) (coefs pl c.args.rem.now ∷ coefs pl c.args.d.now ∷ []) (v 0) ((o ⊗ v 1) ⊕ v 0) refl in
-    (cc, below_list k pl z c.args.rem.now, λ j h. ap (λ l. get_or l j 0) c.clear.ensures ∙ get_d_zeros (length c.args.quot.now) j, placed_zeros g.F.Field.bits (length c.args.quot.now) _ c.clear.ensures, λ h. h)
+    (cc, below_list k pl z c.args.rem.now, λ j h. ap (λ l. get_or l j 0) c.clear.ensures ∙ get_d_zeros (length c.args.quot.now) j, placed_zeros g.F.Field.BITS (length c.args.quot.now) _ c.clear.ensures, λ h. h)
 
 pub loop-n-preserved : goal.loop-n-preserved
 loop-n-preserved g c =
@@ -40,7 +40,7 @@ loop-n-preserved g c =
       divide_more k pl z (coefs pl c.args.rem.now) (coefs pl c.loop-n.quot) R D M _ _ inv.0 wrote added,
       subst (λ (p : Series g.row.F.Denot). Below f n p) (sym added) less,
       λ j h. let ne : j ≢ n - K = omega arith in get_or-set_other c.loop-n.quot (n - K) j c.place.result 0 ne ∙ inv.2 j (omega arith),
-      placed_set g.F.Field.bits c.loop-n.quot (n - K) c.place.result (omega arith) inv.3 (number_below pl c.place.result c.product-c.result c.place.ensures),
+      placed_set g.F.Field.BITS c.loop-n.quot (n - K) c.place.result (omega arith) inv.3 (number_below pl c.place.result c.product-c.result c.place.ensures),
       λ h. c.add_scaled.ensures.placed (inv.4 h),
     )
 

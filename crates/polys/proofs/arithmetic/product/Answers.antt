@@ -8,7 +8,7 @@ pub loop-i-init : goal.loop-i-init
 loop-i-init g c =
     let f = g.F.Field in
     let e = product_none g.met.F.Field.laws f.places g.met.F.Field.origin (length c.args.out.now) (coefs f.places c.args.q.now) in
-    (cc, placed_zeros f.bits (length c.args.out.now) _ c.clear.ensures)
+    (cc, placed_zeros f.BITS (length c.args.out.now) _ c.clear.ensures)
 
 pub loop-i-preserved : goal.loop-i-preserved
 loop-i-preserved g c =

@@ -21,5 +21,5 @@ returns g c =
     let inv = c.loop-i.invariant.0 in
     record {
       is = scaled_all g.met.F.Field.laws pl g.met.F.Field.origin c.args.p.now c.loop-i.p c.args.c (omega arith) (λ j h. inv j (omega arith));
-      placed = placed_all g.F.Field.bits c.loop-i.p (λ j h. number_below pl (get_or c.loop-i.p j 0) _ (inv j (omega arith)));
+      placed = placed_all g.F.Field.BITS c.loop-i.p (λ j h. number_below pl (get_or c.loop-i.p j 0) _ (inv j (omega arith)));
     }
