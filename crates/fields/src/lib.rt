@@ -3,6 +3,8 @@
 
 ghost use Rattle.std.specs.Prelude.{◌≡◌, true, false, ◌≢◌};
 
+pub mod arithmetic;
+pub mod element;
 pub mod field;
 
 use field::Field;
