@@ -13,7 +13,7 @@ use bits::{add_bit, bit};
 use fields::field::{BinaryField, Field};
 use fields::read;
 use goppa::columns::column;
-use polys::arithmetic::{add, clear};
+use polys::arithmetic::add;
 use polys::values::values_at;
 
 // Writes ones where a polynomial is zero on the support, and zeros elsewhere.
@@ -23,8 +23,8 @@ pub fn mark_zeros<F: BinaryField>(l: &[u16], support: &[u16], values: &mut [u16]
 {
     values_at::<F>(values, l, support);
     out.fill(0);
-    for j in 0..support.len() {
-        add_bit(out, j, values[j] == 0);
+    for (j, &v) in values[..support.len()].iter().enumerate() {
+        add_bit(out, j, v == 0);
     }
 }
 
@@ -68,17 +68,10 @@ pub fn add_columns<F: BinaryField>(
     requires off { (j : ℕ) → j < length support.now → (value F.Field.ops F.Field.places g.now) (F.Field.places.at (slice_index support.now j)) ≢ F.Field.ops.zero }
     ensures { (r : ℕ) → r < length sum.old → slice_index sum.new r ≡ F.Field.places.num (column_sum F.Field.ops F.Field.places (length sum.old) g.now support.now (length support.now) (vector e.now) r) }
 {
-    clear(sum);
-    for j in 0..support.len() {
-        add_chosen::<F>(g, support[j], bit(e, j), sum, col);
+    sum.fill(0);
+    for (j, &x) in support.iter().enumerate() {
+        add_chosen::<F>(g, x, bit(e, j), sum, col);
     }
-}
-
-// Whether two lists are equal.
-fn same(a: &[u16], b: &[u16]) -> bool
-    ensures { Decides result (a.now ≡ b.now) }
-{
-    a == b
 }
 
 // Whether a vector is an error vector for the syndrome whose coefficients are in s: both its weight and its syndrome are tested.
@@ -99,5 +92,5 @@ pub fn is_error<F: BinaryField>(
         return false;
     }
     add_columns::<F>(g, support, e, sum, col);
-    same(sum, s)
+    &*sum == s
 }

@@ -28,7 +28,7 @@ pub fn read_syndrome<F: BinaryField>(syndrome: &[u8], s: &mut [u16])
     ensures bits { (i : ℕ) → i < F.Field.BITS * length s.old → bits_of F.Field.BITS s.new i ≡ vector syndrome.now i }
 {
     let m = F::BITS as usize;
-    for r in 0..s.len() {
-        s[r] = number_at(syndrome, m * r, m);
+    for (r, x) in s.iter_mut().enumerate() {
+        *x = number_at(syndrome, m * r, m);
     }
 }

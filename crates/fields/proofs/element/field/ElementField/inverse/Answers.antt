@@ -9,8 +9,7 @@ returns-then-self-eq0 g c = let a = g.A.Arithmetic in is_at a c.args.self 0 (pow
 
 pub returns : goal.returns
 returns g c =
-    let a = g.A.Arithmetic in
-    (
+    let a = g.A.Arithmetic in (
       λ e. c.if-self-eq0.false (ap (λ x. x.place) e ∙ within_is (2 ^ a.BITS) 0 (pow_pos a.BITS)),
       c.element.ensures ∙ ap (at a) c.inverse_of.ensures.is,
     )
