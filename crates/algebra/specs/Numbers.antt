@@ -26,3 +26,7 @@ pub record NumLaws (m : ℕ) (mul : ℕ → ℕ → ℕ) (inv : ℕ → ℕ) : T
   pub mul_one : (a : ℕ) → a < 2 ^ m → mul a 1 ≡ a
   pub mul_xor : (a b c : ℕ) → a < 2 ^ m → b < 2 ^ m → c < 2 ^ m → mul a (bit_xor b c) ≡ bit_xor (mul a b) (mul a c)
   pub mul_inv : (a : ℕ) → a < 2 ^ m → 0 < a → mul a (inv a) ≡ 1
+
+-- a square root of each number below 2^m
+abbrev pub NumRoots : (m : ℕ) (mul : ℕ → ℕ → ℕ) (root : ℕ → ℕ) → Type 0
+NumRoots m mul root = (a : ℕ) → a < 2 ^ m → (root a < 2 ^ m) × (mul (root a) (root a) ≡ a)

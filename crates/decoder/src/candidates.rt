@@ -13,7 +13,7 @@ use bits::{add_bit, bit};
 use fields::field::{BinaryField, Field};
 use fields::read;
 use goppa::columns::column;
-use polys::arithmetic::{add, clear};
+use polys::arithmetic::add;
 use polys::values::values_at;
 
 // Writes ones where a polynomial is zero on the support, and zeros elsewhere.
@@ -23,8 +23,8 @@ pub fn mark_zeros<F: BinaryField>(l: &[u16], support: &[u16], values: &mut [u16]
 {
     values_at::<F>(values, l, support);
     out.fill(0);
-    for j in 0..support.len() {
-        add_bit(out, j, values[j] == 0);
+    for (j, &v) in values[..support.len()].iter().enumerate() {
+        add_bit(out, j, v == 0);
     }
 }
 
@@ -47,7 +47,7 @@ fn add_chosen<F: BinaryField>(g: &[u16], x: u16, chosen: bool, sum: &mut [u16], 
     requires fits { (length g.now ≡ length sum.old + 1) × ((length col.old ≡ length sum.old) × (1 ≤ length sum.old)) }
     requires off { (value F.Field.ops F.Field.places g.now) (F.Field.places.at x) ≢ F.Field.ops.zero }
     ensures sum { (r : ℕ) → r < length sum.old → (coefs F.Field.places sum.new) r ≡ F.Field.ops.add ((coefs F.Field.places sum.old) r) (if chosen then F.Field.places.at (column_place F.Field.ops F.Field.places (length sum.old) g.now x r) else F.Field.ops.zero) }
-    ensures placed { Placed F.Field.bits sum.old → Placed F.Field.bits sum.new }
+    ensures placed { Placed F.Field.BITS sum.old → Placed F.Field.BITS sum.new }
 {
     if !chosen {
         return;
@@ -68,17 +68,10 @@ pub fn add_columns<F: BinaryField>(
     requires off { (j : ℕ) → j < length support.now → (value F.Field.ops F.Field.places g.now) (F.Field.places.at (slice_index support.now j)) ≢ F.Field.ops.zero }
     ensures { (r : ℕ) → r < length sum.old → slice_index sum.new r ≡ F.Field.places.num (column_sum F.Field.ops F.Field.places (length sum.old) g.now support.now (length support.now) (vector e.now) r) }
 {
-    clear(sum);
-    for j in 0..support.len() {
-        add_chosen::<F>(g, support[j], bit(e, j), sum, col);
+    sum.fill(0);
+    for (j, &x) in support.iter().enumerate() {
+        add_chosen::<F>(g, x, bit(e, j), sum, col);
     }
-}
-
-// Whether two lists are equal.
-fn same(a: &[u16], b: &[u16]) -> bool
-    ensures { Decides result (a.now ≡ b.now) }
-{
-    a == b
 }
 
 // Whether a vector is an error vector for the syndrome whose coefficients are in s: both its weight and its syndrome are tested.
@@ -92,12 +85,12 @@ pub fn is_error<F: BinaryField>(
 ) -> bool
     requires fits { (length g.now ≡ length s.now + 1) × ((length sum.old ≡ length s.now) × ((length col.old ≡ length s.now) × ((1 ≤ length s.now) × (length support.now ≡ 8 * length e.now)))) }
     requires off { (j : ℕ) → j < length support.now → (value F.Field.ops F.Field.places g.now) (F.Field.places.at (slice_index support.now j)) ≢ F.Field.ops.zero }
-    requires syndrome { (Placed F.Field.bits s.now) × (0 < F.Field.bits) }
-    ensures { Decides result (ErrorOf F.Field.ops F.Field.places (length s.now) g.now support.now (bits_of F.Field.bits s.now) (vector e.now)) }
+    requires syndrome { (Placed F.Field.BITS s.now) × (0 < F.Field.BITS) }
+    ensures { Decides result (ErrorOf F.Field.ops F.Field.places (length s.now) g.now support.now (bits_of F.Field.BITS s.now) (vector e.now)) }
 {
     if weight_of(e, support.len()) != s.len() {
         return false;
     }
     add_columns::<F>(g, support, e, sum, col);
-    same(sum, s)
+    &*sum == s
 }

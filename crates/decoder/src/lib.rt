@@ -1,7 +1,7 @@
 // The decoder of Goppa codes: from a syndrome to the one vector of weight t that has it.
 #![tactic(auto)]
 
-ghost use Rattle.std.specs.Prelude.{◌≡◌, ℕ, ◌+◌, ◌*◌, ◌/◌, ◌^◌, ◌<◌, ◌≤◌, true, false, List, length, replicate};
+ghost use Rattle.std.specs.Prelude.{◌≡◌, ℕ, ◌+◌, ◌*◌, ◌/◌, ◌^◌, ◌<◌, ◌≤◌, List, length, MatchOption, replicate};
 ghost use Rattle.bits.specs.Packed.{vector};
 ghost use Rattle.matrices.specs.Columns.{bits_of};
 ghost use Rattle.polys.specs.Coefs.{Placed};
@@ -26,24 +26,22 @@ fn decode_places<F: BinaryField>(
     work: &mut [u16],
     out: &mut [u8],
     t: usize,
-) -> bool
+) -> Option<()>
     requires code { (((zeros : List ℕ) × CodeOf F.Field.ops F.Field.places t g.now support.now zeros)) × ((length g.now ≡ t + 1) × ((2 ≤ t) × (1 ≤ length support.now))) }
-    requires syndrome { (length s.now ≡ t) × ((Placed F.Field.bits s.now) × (0 < F.Field.bits)) }
+    requires syndrome { (length s.now ≡ t) × ((Placed F.Field.BITS s.now) × (0 < F.Field.BITS)) }
     requires fits { (length support.now ≡ 8 * length out.old) × ((length l.old ≡ 2 * (t / 2 + 1)) × ((length support.now ≤ length work.old) × (17 * (t + 1) ≤ length work.old))) }
-    ensures { elim result [ true ↦ OnlyError F.Field.ops F.Field.places t g.now support.now (bits_of F.Field.bits s.now) (vector out.new) | false ↦ NoError F.Field.ops F.Field.places t g.now support.now (bits_of F.Field.bits s.now) × (out.new ≡ replicate (length out.old) 0) ] }
+    ensures { MatchOption result (NoError F.Field.ops F.Field.places t g.now support.now (bits_of F.Field.BITS s.now) × (out.new ≡ replicate (length out.old) 0)) (λ _. OnlyError F.Field.ops F.Field.places t g.now support.now (bits_of F.Field.BITS s.now) (vector out.new)) }
 {
-    if !locate_within::<F>(g, s, l, work, t) {
-        out.fill(0);
-        return false;
-    }
+    out.fill(0);
+    locate_within::<F>(g, s, l, work, t)?;
     mark_zeros::<F>(l, support, work, out);
     let (sum, rest) = work.split_at_mut(t);
     let (col, _) = rest.split_at_mut(t);
     if !is_error::<F>(g, support, s, out, sum, col) {
         out.fill(0);
-        return false;
+        return None;
     }
-    true
+    Some(())
 }
 
 // Whether a syndrome has an error vector: a vector of weight t whose sum of columns is the syndrome. There is one at most, and `out` then holds it; otherwise it holds zeros.
@@ -54,12 +52,12 @@ pub fn decode<F: BinaryField>(
     work: &mut [u16],
     out: &mut [u8],
     t: usize,
-) -> bool
+) -> Option<()>
     requires code { (((zeros : List ℕ) × CodeOf F.Field.ops F.Field.places t g.now support.now zeros)) × ((length g.now ≡ t + 1) × ((2 ≤ t) × (1 ≤ length support.now))) }
-    requires field { (0 < F.Field.bits) × ((F.Field.bits ≤ 16) × (F.Field.bits * t < 2 ^ 32)) }
-    requires fits { (F.Field.bits * t ≤ 8 * length syndrome.now) × (length support.now ≡ 8 * length out.old) }
+    requires field { (0 < F.Field.BITS) × ((F.Field.BITS ≤ 16) × (F.Field.BITS * t < 2 ^ 32)) }
+    requires fits { (F.Field.BITS * t ≤ 8 * length syndrome.now) × (length support.now ≡ 8 * length out.old) }
     requires work { (t + 2 * (t / 2 + 1) + length support.now ≤ length work.old) × (t + 2 * (t / 2 + 1) + 17 * (t + 1) ≤ length work.old) }
-    ensures { elim result [ true ↦ OnlyError F.Field.ops F.Field.places t g.now support.now (vector syndrome.now) (vector out.new) | false ↦ NoError F.Field.ops F.Field.places t g.now support.now (vector syndrome.now) × (out.new ≡ replicate (length out.old) 0) ] }
+    ensures { MatchOption result (NoError F.Field.ops F.Field.places t g.now support.now (vector syndrome.now) × (out.new ≡ replicate (length out.old) 0)) (λ _. OnlyError F.Field.ops F.Field.places t g.now support.now (vector syndrome.now) (vector out.new)) }
 {
     let (s, rest) = work.split_at_mut(t);
     let (l, rest) = rest.split_at_mut(2 * (t / 2 + 1));

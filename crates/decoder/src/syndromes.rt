@@ -5,7 +5,6 @@ ghost use Rattle.matrices.specs.Columns.{number_bit, bits_of};
 ghost use Rattle.polys.specs.Coefs.{Placed};
 
 use bits::bit;
-use fields::degree::Fixed;
 use fields::field::{BinaryField, Field};
 
 // The number whose bits stand in a vector from a place on, the one of weight 1 first.
@@ -23,13 +22,13 @@ fn number_at(bytes: &[u8], from: usize, count: usize) -> u16
 
 // Writes the coefficients of the polynomial that a syndrome holds.
 pub fn read_syndrome<F: BinaryField>(syndrome: &[u8], s: &mut [u16])
-    requires fits { (F.Field.bits * length s.old ≤ 8 * length syndrome.now) × (F.Field.bits * length s.old < 2 ^ 32) }
-    requires field { (0 < F.Field.bits) × (F.Field.bits ≤ 16) }
-    ensures placed { Placed F.Field.bits s.new }
-    ensures bits { (i : ℕ) → i < F.Field.bits * length s.old → bits_of F.Field.bits s.new i ≡ vector syndrome.now i }
+    requires fits { (F.Field.BITS * length s.old ≤ 8 * length syndrome.now) × (F.Field.BITS * length s.old < 2 ^ 32) }
+    requires field { (0 < F.Field.BITS) × (F.Field.BITS ≤ 16) }
+    ensures placed { Placed F.Field.BITS s.new }
+    ensures bits { (i : ℕ) → i < F.Field.BITS * length s.old → bits_of F.Field.BITS s.new i ≡ vector syndrome.now i }
 {
-    let m = F::DEGREE.get() as usize;
-    for r in 0..s.len() {
-        s[r] = number_at(syndrome, m * r, m);
+    let m = F::BITS as usize;
+    for (r, x) in s.iter_mut().enumerate() {
+        *x = number_at(syndrome, m * r, m);
     }
 }

@@ -1,5 +1,5 @@
 // The stages of the decoder: from the polynomial of a syndrome to a polynomial that is zero at the points of its errors.
-ghost use Rattle.std.specs.Prelude.{◌≡◌, ℕ, suc, ◌+◌, ◌-◌, ◌*◌, ◌/◌, ◌<◌, ◌≤◌, true, false, List, length, ◌≢◌};
+ghost use Rattle.std.specs.Prelude.{◌≡◌, ℕ, suc, ◌+◌, ◌-◌, ◌*◌, ◌/◌, ◌<◌, ◌≤◌, true, false, List, length, MatchOption, ◌≢◌};
 ghost use Rattle.algebra.specs.Series.{Below, Degree};
 ghost use Rattle.polys.specs.Coefs.{poly, coefs};
 ghost use Rattle.polys.specs.Values.{value};
@@ -123,6 +123,7 @@ fn join_squares<F: BinaryField>(p: &[u16], q: &[u16], out: &mut [u16], n: usize)
     requires under { (Below F.Field.ops n (coefs F.Field.places p.now)) × (Below F.Field.ops n (coefs F.Field.places q.now)) }
     ensures { (x : F) → (value F.Field.ops F.Field.places out.new) x ≡ from_parts F.Field.ops (value F.Field.ops F.Field.places p.now) (value F.Field.ops F.Field.places q.now) x }
 {
+    // By places: a proof does not know what is written through `chunks_exact_mut`.
     for i in 0..n {
         out[2 * i] = square_at::<F>(p, i);
         out[2 * i + 1] = square_at::<F>(q, i);
@@ -177,16 +178,16 @@ fn find_locator<F: BinaryField>(
     wide: &mut [u16],
     quot: &mut [u16],
     t: usize,
-) -> bool
+) -> Option<()>
     requires code { (length g.now ≡ t + 1) × ((length s.now ≡ t) × (((coefs F.Field.places g.now) t ≡ F.Field.ops.one) × ((2 ≤ t) × (length out.old ≡ 2 * (t / 2 + 1))))) }
     requires divisors { (length v.old ≡ t + 1) × ((length g1.old ≡ t + 1) × ((length g2.old ≡ t + 1) × ((length s1.old ≡ t + 1) × (length v2.old ≡ t + 1)))) }
     requires quotients { (length g12.old ≡ t + 1) × ((length w.old ≡ t + 1) × ((length u.old ≡ t + 1) × ((length even.old ≡ t + 1) × (length odd.old ≡ t + 1)))) }
     requires work { (length r.old ≡ t + 1) × ((length a.old ≡ t + 1) × ((length b.old ≡ t + 1) × ((length wide.old ≡ 2 * (t + 1)) × (length quot.old ≡ 2 * (t + 1))))) }
-    ensures { (zs sup : List F) → GoppaCode F.Field.ops t (value F.Field.ops F.Field.places g.now) zs sup → elim result [ true ↦ Locates F.Field.ops t (value F.Field.ops F.Field.places s.now) zs sup (value F.Field.ops F.Field.places out.new) | false ↦ NoErrors F.Field.ops t (value F.Field.ops F.Field.places s.now) zs sup ] }
+    ensures { (zs sup : List F) → GoppaCode F.Field.ops t (value F.Field.ops F.Field.places g.now) zs sup → MatchOption result (NoErrors F.Field.ops t (value F.Field.ops F.Field.places s.now) zs sup) (λ _. Locates F.Field.ops t (value F.Field.ops F.Field.places s.now) zs sup (value F.Field.ops F.Field.places out.new)) }
 {
     let (n1, n2) = prepare::<F>(g, s, v, g1, g2, s1, v2, g12, r, a, b, wide, t);
     if !within_bounds(t, n1, n2) {
-        return false;
+        return None;
     }
     let n = t - (n1 + n2);
     key_root::<F>(
@@ -194,7 +195,7 @@ fn find_locator<F: BinaryField>(
     );
     key_solution::<F>(g12, v, w, r, a, b, n, t / 2 - n2 + 1);
     join_parts::<F>(r, b, g1, g2, out, wide, quot, t / 2 + 1);
-    true
+    Some(())
 }
 
 // The same with its work memory in one piece.
@@ -204,10 +205,10 @@ pub fn locate_within<F: BinaryField>(
     out: &mut [u16],
     work: &mut [u16],
     t: usize,
-) -> bool
+) -> Option<()>
     requires code { (length g.now ≡ t + 1) × ((length s.now ≡ t) × (((coefs F.Field.places g.now) t ≡ F.Field.ops.one) × ((2 ≤ t) × (length out.old ≡ 2 * (t / 2 + 1))))) }
     requires work { 17 * (t + 1) ≤ length work.old }
-    ensures { (zs sup : List F) → GoppaCode F.Field.ops t (value F.Field.ops F.Field.places g.now) zs sup → elim result [ true ↦ Locates F.Field.ops t (value F.Field.ops F.Field.places s.now) zs sup (value F.Field.ops F.Field.places out.new) | false ↦ NoErrors F.Field.ops t (value F.Field.ops F.Field.places s.now) zs sup ] }
+    ensures { (zs sup : List F) → GoppaCode F.Field.ops t (value F.Field.ops F.Field.places g.now) zs sup → MatchOption result (NoErrors F.Field.ops t (value F.Field.ops F.Field.places s.now) zs sup) (λ _. Locates F.Field.ops t (value F.Field.ops F.Field.places s.now) zs sup (value F.Field.ops F.Field.places out.new)) }
 {
     let l = t + 1;
     let (v, rest) = work.split_at_mut(l);

@@ -10,19 +10,8 @@ ghost use Rattle.patterson.specs.Locator.{from_parts};
 use crate::steps::{copy, product_modulo};
 use fields::field::{BinaryField, Field};
 use fields::read;
-use polys::arithmetic::{add, clear, scale};
+use polys::arithmetic::{add, scale};
 use polys::euclid::euclid;
-
-// The inverse of an element, and zero for zero.
-fn inverse_or_zero<F: BinaryField>(x: F) -> F
-    ensures zero { x ≡ F.Field.ops.zero → result ≡ F.Field.ops.zero }
-    ensures inverse { (x ≢ F.Field.ops.zero) → result ≡ F.Field.ops.inv x }
-{
-    match x.inverse() {
-        Some(y) => y,
-        None => F::zero(),
-    }
-}
 
 // Writes the inverse of q, of a lower degree, modulo a polynomial of degree n, to b: where the polynomial has n different zeros, and q is zero at none of them.
 pub fn inverse_modulo<F: BinaryField>(
@@ -44,7 +33,7 @@ pub fn inverse_modulo<F: BinaryField>(
     s.copy_from_slice(modulus);
     copy::<F>(q, r);
     euclid::<F>(s, r, a, b, n, 1);
-    let e = inverse_or_zero(read::<F>(r[0]));
+    let e = read::<F>(r[0]).inverse().unwrap_or(F::zero());
     scale(b, e);
 }
 
@@ -53,8 +42,9 @@ fn every_other_root<F: BinaryField>(p: &[u16], start: usize, out: &mut [u16])
     requires { (start ≤ 1) × ((1 ≤ length p.now) × (length p.now ≤ 2 * length out.old)) }
     ensures { (j : ℕ) → F.Field.ops.mul ((coefs F.Field.places out.new) j) ((coefs F.Field.places out.new) j) ≡ (coefs F.Field.places p.now) (2 * j + start) }
 {
-    clear(out);
+    out.fill(0);
     let rest = p.len() - start;
+    // By places: a `zip` with `iter_mut` would say nothing of what was written.
     for j in 0..rest / 2 + rest % 2 {
         out[j] = read::<F>(p[2 * j + start]).square_root().place();
     }

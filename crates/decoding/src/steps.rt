@@ -10,7 +10,7 @@ ghost use Rattle.patterson.specs.Euclid.{CommonDivisor};
 
 use fields::field::{BinaryField, Field};
 use fields::read;
-use polys::arithmetic::{add, add_multiple, add_scaled, clear, divide, product};
+use polys::arithmetic::{add, add_multiple, add_scaled, divide, product};
 use polys::euclid::gcd;
 
 // Copies a polynomial into memory that may be longer.
@@ -18,7 +18,7 @@ pub fn copy<F: BinaryField>(p: &[u16], into: &mut [u16])
     requires { length p.now ≤ length into.old }
     ensures { (coefs F.Field.places into.new) ≡ (coefs F.Field.places p.now) }
 {
-    clear(into);
+    into.fill(0);
     add::<F>(into, p);
 }
 
@@ -29,7 +29,7 @@ pub fn shifted_syndrome<F: BinaryField>(s: &[u16], g: &[u16], v: &mut [u16], t: 
     ensures under { Below F.Field.ops t (coefs F.Field.places v.new) }
     ensures values { (x : F) → (value F.Field.ops F.Field.places g.now) x ≡ F.Field.ops.zero → (value F.Field.ops F.Field.places v.new) x ≡ shifted F.Field.ops (value F.Field.ops F.Field.places s.now) x }
 {
-    clear(v);
+    v.fill(0);
     v[0] = F::one().place();
     add_scaled(v, s, F::one(), 1);
     let c = read::<F>(v[t]);

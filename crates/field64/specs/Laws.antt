@@ -1,16 +1,14 @@
 -- The laws of the field of 64.
-use Rattle.std.specs.Prelude.{◌≡◌, refl, ℕ, ◌<◌}
-use Rattle.std.proofs.Common.{sym, ap, ap₂, ◌∙◌, lit<}
+use Rattle.std.specs.Prelude.{◌≡◌, ℕ, ◌<◌}
+use Rattle.std.proofs.Common.{lit<}
 use Rattle.algebra.specs.Field.{Laws, Roots}
-use Rattle.algebra.specs.Numbers.{within, NumLaws}
+use Rattle.algebra.specs.Numbers.{NumLaws, NumRoots}
 use Rattle.algebra.specs.Shifts.{times_z, times_bits}
 use Rattle.algebra.proofs.Linear.{linear_zero}
 use Rattle.algebra.proofs.Shifts.{times_left, times_right, times_below, comm, assoc, one}
-use Rattle.algebra.proofs.Numbers.{within_is, laws_from}
+use Rattle.fields.specs.Elements.{laws, roots}
 use Rattle.field64.specs.Tables.{mul64, inv64, root64}
-use Rattle.field64.specs.Model.{at64, places64, ops64}
-use Rattle.field64.specs.declared.element.E64.{E64}
-use Rattle.field64.specs.Elements.{is_at}
+use Rattle.field64.specs.Model.{by_tables, ops64}
 use Rattle.field64.specs.Tests.{inverse_rule, inverse_below, root_rule, root_below}
 
 pub below64 : (a b : ℕ) → a < 64 → mul64 a b < 64
@@ -25,7 +23,7 @@ pub zero_right : (a : ℕ) → mul64 a 0 ≡ 0
 unfolding mul64
 zero_right a = linear_zero (mul64 a) (times_right 5 3 6 a)
 
-num_laws : NumLaws 6 mul64 inv64
+pub num_laws : NumLaws 6 mul64 inv64
 unfolding mul64 times_bits times_z
 num_laws = record {
   one_below = lit< tt;
@@ -38,12 +36,11 @@ num_laws = record {
   mul_inv = inverse_rule;
 }
 
+pub num_roots : NumRoots 6 mul64 root64
+num_roots a h = (root_below a h, root_rule a h)
+
 pub laws64 : Laws ops64
-laws64 = laws_from places64 num_laws
+laws64 = laws by_tables num_laws
 
 pub roots64 : Roots ops64
-roots64 = record { root = λ x. at64 (root64 x.place); squared = squared } where
-  squared : (x : E64) → ops64.mul (at64 (root64 x.place)) (at64 (root64 x.place)) ≡ x
-  squared x =
-      let r : within 64 (root64 x.place) ≡ root64 x.place = within_is 64 (root64 x.place) (root_below x.place x.below) in
-      ap at64 (ap₂ mul64 r r ∙ root_rule x.place x.below) ∙ sym (is_at x x.place x.below refl)
+roots64 = roots by_tables num_roots

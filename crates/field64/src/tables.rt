@@ -2,6 +2,10 @@
 // zero.
 ghost use Rattle.std.specs.Prelude.{◌≡◌, ◌%◌, ◌<◌, get_or};
 ghost use Rattle.field64.specs.Tables.{mul64, inv64, root64, powers, logs};
+ghost use Rattle.field64.specs.Laws.{num_laws, num_roots};
+ghost use Rattle.std.proofs.Common.{lit<};
+
+use fields::arithmetic::Arithmetic;
 
 // The powers of z, from z^0 on.
 const POWERS: [u16; 63] = [
@@ -18,14 +22,14 @@ const LOGS: [u16; 64] = [
 ];
 
 // z^n, which is z^(n + 63).
-pub(crate) fn power(n: usize) -> u16
+fn power(n: usize) -> u16
     ensures { result ≡ get_or powers (n % 63) 0 }
 {
     POWERS[n % 63]
 }
 
 // The logarithm of an element.
-pub(crate) fn log(a: u16) -> u16
+fn log(a: u16) -> u16
     requires { a < 64 }
     ensures is { result ≡ get_or logs a 0 }
     ensures below { result < 63 }
@@ -33,36 +37,44 @@ pub(crate) fn log(a: u16) -> u16
     LOGS[a as usize]
 }
 
-// The product.
-pub(crate) fn times(a: u16, b: u16) -> u16
-    requires { (a < 64) × (b < 64) }
-    ensures is { result ≡ mul64 a b }
-    ensures below { result < 64 }
-{
-    if a == 0 || b == 0 {
-        return 0;
-    }
-    power(log(a) as usize + log(b) as usize)
-}
+// The arithmetic of the field of 64.
+#[derive(Clone, Copy)]
+pub struct Tables;
 
-// The inverse of an element that is not zero.
-pub(crate) fn inverse_of(a: u16) -> u16
-    requires { a < 64 }
-    ensures is { result ≡ inv64 a }
-    ensures below { result < 64 }
-{
-    power(63 - log(a) as usize)
-}
+impl Arithmetic for Tables {
+    const BITS: u32 = 6;
 
-// The square root: half the logarithm, or half of it and 63 where it is odd.
-pub(crate) fn root_of(a: u16) -> u16
-    requires { a < 64 }
-    ensures is { result ≡ root64 a }
-    ensures below { result < 64 }
-{
-    if a == 0 {
-        return 0;
+    ghost BITS = { 6 };
+
+    ghost mul = { mul64 };
+
+    ghost inv = { inv64 };
+
+    ghost root = { root64 };
+
+    ghost fits = { lit< tt };
+
+    ghost laws = { num_laws };
+
+    ghost roots = { num_roots };
+
+    fn times(a: u16, b: u16) -> u16 {
+        if a == 0 || b == 0 {
+            return 0;
+        }
+        power(log(a) as usize + log(b) as usize)
     }
-    let l = log(a) as usize;
-    power((l + l % 2 * 63) / 2)
+
+    fn inverse_of(a: u16) -> u16 {
+        power(63 - log(a) as usize)
+    }
+
+    // Half the logarithm, or half of it and 63 where it is odd.
+    fn root_of(a: u16) -> u16 {
+        if a == 0 {
+            return 0;
+        }
+        let l = log(a) as usize;
+        power((l + l % 2 * 63) / 2)
+    }
 }

@@ -1,21 +1,19 @@
 -- The laws of the field of 8,192.
-use Rattle.std.specs.Prelude.{◌≡◌, ℕ, ◌<◌, refl}
-use Rattle.std.proofs.Common.{sym, ap, ap₂, ◌∙◌, lit<}
+use Rattle.std.specs.Prelude.{ℕ, ◌<◌}
+use Rattle.std.proofs.Common.{lit<}
 use Rattle.algebra.specs.Field.{Laws, Roots}
-use Rattle.algebra.specs.Numbers.{within, NumLaws}
-use Rattle.algebra.proofs.Numbers.{within_is, laws_from}
+use Rattle.algebra.specs.Numbers.{NumLaws, NumRoots}
+use Rattle.fields.specs.Elements.{laws, roots}
 use Rattle.field8192.specs.Product.{mul8192, square8192, squares, inv8192, root8192}
-use Rattle.field8192.specs.Model.{at8192, places8192, ops8192}
-use Rattle.field8192.specs.declared.element.E8192.{E8192}
-use Rattle.field8192.specs.Elements.{is_at}
+use Rattle.field8192.specs.Model.{by_shifts, ops8192}
 use Rattle.field8192.specs.Ring.{mul_right, mul_below, mul_comm, mul_assoc, mul_one}
-use Rattle.field8192.specs.Powers.{inverse, root as root_is}
+use Rattle.field8192.specs.Powers.{inverse, root}
 
 pub inv_below : (a : ℕ) → inv8192 a < 8192
 unfolding inv8192 square8192
 inv_below a = mul_below _ _
 
-num_laws : NumLaws 13 mul8192 inv8192
+pub num_laws : NumLaws 13 mul8192 inv8192
 num_laws = record {
   one_below = lit< tt;
   mul_below = λ a b ha hb. mul_below a b;
@@ -27,16 +25,15 @@ num_laws = record {
   mul_inv = λ a h p. inverse a p h;
 }
 
-pub laws8192 : Laws ops8192
-laws8192 = laws_from places8192 num_laws
-
 root_below : (a : ℕ) → root8192 a < 8192
 unfolding squares square8192
 root_below a = mul_below _ _
 
+pub num_roots : NumRoots 13 mul8192 root8192
+num_roots a h = (root_below a, root a h)
+
+pub laws8192 : Laws ops8192
+laws8192 = laws by_shifts num_laws
+
 pub roots8192 : Roots ops8192
-roots8192 = record { root = λ x. at8192 (root8192 x.place); squared = squared } where
-  squared : (x : E8192) → ops8192.mul (at8192 (root8192 x.place)) (at8192 (root8192 x.place)) ≡ x
-  squared x =
-      let r : within 8192 (root8192 x.place) ≡ root8192 x.place = within_is 8192 (root8192 x.place) (root_below x.place) in
-      ap at8192 (ap₂ mul8192 r r ∙ root_is x.place x.below) ∙ sym (is_at x x.place x.below refl)
+roots8192 = roots by_shifts num_roots

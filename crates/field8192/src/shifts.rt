@@ -3,18 +3,58 @@
 ghost use Rattle.std.specs.Prelude.{◌≡◌, ◌<◌};
 ghost use Rattle.field8192.specs.Product.{mul8192, square8192, inv8192, root8192};
 ghost use Rattle.field8192.specs.Folds.{carryless_bits, folded};
+ghost use Rattle.field8192.specs.Laws.{num_laws, num_roots};
+ghost use Rattle.std.proofs.Common.{lit<};
 
-// The product: the highest bit of b, and then the twelve below it, three at a time.
-pub(crate) fn times(a: u16, b: u16) -> u16
-    requires { (a < 8192) × (b < 8192) }
-    ensures is { result ≡ mul8192 a b }
-    ensures below { result < 8192 }
-{
-    let mut r = a * (b >> 12);
-    for i in 0..4u16 {
-        r = fold(r * 8 ^ carryless(a, b >> (9 - 3 * i)));
+use fields::arithmetic::Arithmetic;
+
+// The arithmetic of the field of 8,192.
+#[derive(Clone, Copy)]
+pub struct Shifts;
+
+impl Arithmetic for Shifts {
+    const BITS: u32 = 13;
+
+    ghost BITS = { 13 };
+
+    ghost mul = { mul8192 };
+
+    ghost inv = { inv8192 };
+
+    ghost root = { root8192 };
+
+    ghost fits = { lit< tt };
+
+    ghost laws = { num_laws };
+
+    ghost roots = { num_roots };
+
+    // The highest bit of b, and then the twelve below it, three at a time.
+    fn times(a: u16, b: u16) -> u16 {
+        let mut r = a * (b >> 12);
+        for i in 0..4u16 {
+            r = fold(r * 8 ^ carryless(a, b >> (9 - 3 * i)));
+        }
+        r
     }
-    r
+
+    // By a^8190, which is zero at zero.
+    fn inverse_of(a: u16) -> u16 {
+        let mut r = 1;
+        for i in 0..12u8 {
+            r = Shifts::times(a, square(r));
+        }
+        square(r)
+    }
+
+    // By a^4096.
+    fn root_of(a: u16) -> u16 {
+        let mut r = a;
+        for n in 0..12u8 {
+            r = square(r);
+        }
+        r
+    }
 }
 
 // The product of a and the lowest three bits of b, not reduced.
@@ -39,31 +79,5 @@ fn square(a: u16) -> u16
     ensures is { result ≡ square8192 a }
     ensures below { result < 8192 }
 {
-    times(a, a)
-}
-
-// The inverse, a^8190: zero at zero.
-pub(crate) fn inverse_of(a: u16) -> u16
-    requires { a < 8192 }
-    ensures is { result ≡ inv8192 a }
-    ensures below { result < 8192 }
-{
-    let mut r = 1;
-    for i in 0..12u8 {
-        r = times(a, square(r));
-    }
-    square(r)
-}
-
-// The square root, a^4096.
-pub(crate) fn root_of(a: u16) -> u16
-    requires { a < 8192 }
-    ensures is { result ≡ root8192 a }
-    ensures below { result < 8192 }
-{
-    let mut r = a;
-    for n in 0..12u8 {
-        r = square(r);
-    }
-    r
+    Shifts::times(a, a)
 }

@@ -3,20 +3,16 @@
 ghost use Rattle.std.specs.Prelude.{◌≡◌, ℕ, ◌^◌, ◌<◌, ◌≤◌, MatchOption, ◌≢◌, bit_xor};
 ghost use Rattle.algebra.specs.Field.{Ops, Laws, Roots, Places};
 
-use crate::degree::Fixed;
-
 // A commutative field of characteristic 2 with 2^m elements.
 pub trait Field: Copy {
     // The number m.
-    type Degree: Fixed;
+    const BITS: u32;
 
-    const DEGREE: Self::Degree;
-
-    ghost bits: { ℕ };
+    ghost BITS: { ℕ };
 
     ghost ops: { Ops Self };
 
-    ghost places: { Places Self bits };
+    ghost places: { Places Self BITS };
 
     fn zero() -> Self
         ensures { result ≡ ops.zero };
@@ -36,13 +32,11 @@ pub trait Field: Copy {
 
     // The element at a place; absent from 2^m on.
     fn from_place(place: u16) -> Option<Self>
-        ensures { MatchOption result (2 ^ bits ≤ place) (λ x. ((place < 2 ^ bits) × (x ≡ places.at place))) };
+        ensures { MatchOption result (2 ^ BITS ≤ place) (λ x. ((place < 2 ^ BITS) × (x ≡ places.at place))) };
 
     // The place of an element.
     fn place(self) -> u16
         ensures { result ≡ places.num self };
-
-    ghost degree: { Self.Degree.Fixed.number ≡ bits };
 
     ghost laws: { Laws ops };
 

@@ -1,9 +1,11 @@
-// Fields of 2^m elements, as an interface, and how numbers in lent memory are read as elements.
+// Fields of 2^m elements, as an interface and as one type over an arithmetic of numbers, and how
+// numbers in lent memory are read as elements.
 #![tactic(auto)]
 
 ghost use Rattle.std.specs.Prelude.{◌≡◌, true, false, ◌≢◌};
 
-pub mod degree;
+pub mod arithmetic;
+pub mod element;
 pub mod field;
 
 use field::Field;
@@ -13,10 +15,7 @@ use field::Field;
 pub fn read<F: Field>(place: u16) -> F
     ensures { result ≡ F.Field.places.at place }
 {
-    match F::from_place(place) {
-        Some(x) => x,
-        None => F::zero(),
-    }
+    F::from_place(place).unwrap_or(F::zero())
 }
 
 // Whether an element is zero.
@@ -25,4 +24,11 @@ pub fn is_zero<F: Field>(x: F) -> bool
     ensures no { result ≡ false → x ≢ F.Field.ops.zero }
 {
     x.place() == 0
+}
+
+// c + x·y
+pub fn add_product<F: Field>(c: F, x: F, y: F) -> F
+    ensures { result ≡ F.Field.ops.add c (F.Field.ops.mul x y) }
+{
+    c.sum(x.product(y))
 }

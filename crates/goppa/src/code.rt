@@ -5,17 +5,16 @@ ghost use Rattle.std.specs.List.{range_with_len};
 ghost use Rattle.shuffles.specs.Orders.{Permutation};
 ghost use Rattle.goppa.specs.Codes.{code_list, support, zeros, OffSupport};
 
-use fields::degree::Fixed;
 use fields::field::{BinaryField, Field};
 use levels::guards::Place;
 use shuffles::shuffle;
 
 // The number of elements of the field.
 pub fn size<F: BinaryField>() -> usize
-    requires { F.Field.bits ≤ 16 }
-    ensures { result ≡ 2 ^ F.Field.bits }
+    requires { F.Field.BITS ≤ 16 }
+    ensures { result ≡ 2 ^ F.Field.BITS }
 {
-    1 << F::DEGREE.get()
+    1 << F::BITS
 }
 
 // Writes each place to its own position.
@@ -30,10 +29,10 @@ fn count_up(places: &mut [Place])
 
 // Writes the places of all elements, shuffled by a seed. Each stands there once.
 pub fn code_of<F: BinaryField>(places: &mut [Place], seed: &[u8])
-    requires long { (length places.old ≡ 2 ^ F.Field.bits) × (F.Field.bits ≤ 16) }
+    requires long { (length places.old ≡ 2 ^ F.Field.BITS) × (F.Field.BITS ≤ 16) }
     requires seed { length seed.now ≡ 32 }
-    ensures after { places.new ≡ code_list F.Field.bits seed.now }
-    ensures once { Permutation (2 ^ F.Field.bits) places.new }
+    ensures after { places.new ≡ code_list F.Field.BITS seed.now }
+    ensures once { Permutation (2 ^ F.Field.BITS) places.new }
 {
     count_up(places);
     shuffle(places, seed);

@@ -6,7 +6,6 @@ ghost use Rattle.matrices.specs.Columns.{ColumnAdded};
 ghost use Rattle.goppa.specs.Matrix.{column_bits, mixed_matrix};
 
 use crate::columns::column;
-use fields::degree::Fixed;
 use fields::field::{BinaryField, Field};
 use fields::read;
 use levels::guards::Position;
@@ -22,12 +21,12 @@ fn add_code_column<F: BinaryField>(
     j: usize,
 )
     requires code { (length g.now ≡ length column_of.old + 1) × ((1 ≤ length column_of.old) × ((value F.Field.ops F.Field.places g.now (F.Field.places.at x) ≢ F.Field.ops.zero))) }
-    requires field { (F.Field.bits ≤ 16) × ((0 < F.Field.bits) × (F.Field.bits * length column_of.old < 2 ^ 32)) }
-    requires rows { (F.Field.bits * length column_of.old * width ≤ length m.old) × (j < 8 * width) }
-    ensures { ColumnAdded 0 (F.Field.bits * length column_of.old) (8 * width) j (column_bits F.Field.ops F.Field.places (length column_of.old) g.now x) (matrix width m.old) (matrix width m.new) }
+    requires field { (F.Field.BITS ≤ 16) × ((0 < F.Field.BITS) × (F.Field.BITS * length column_of.old < 2 ^ 32)) }
+    requires rows { (F.Field.BITS * length column_of.old * width ≤ length m.old) × (j < 8 * width) }
+    ensures { ColumnAdded 0 (F.Field.BITS * length column_of.old) (8 * width) j (column_bits F.Field.ops F.Field.places (length column_of.old) g.now x) (matrix width m.old) (matrix width m.new) }
 {
     let _ = column(g, read::<F>(x), column_of);
-    add_column(m, width, j, column_of, F::DEGREE.get() as usize);
+    add_column(m, width, j, column_of, F::BITS as usize);
 }
 
 // Writes the first columns of HP, as many as a row has bits, over what `m` holds.
@@ -40,10 +39,10 @@ pub fn write_mixed<F: BinaryField>(
     width: usize,
 )
     requires code { (length g.now ≡ length column_of.old + 1) × ((1 ≤ length column_of.old) × (((k : ℕ) → k < length support.now → value F.Field.ops F.Field.places g.now (F.Field.places.at (slice_index support.now k)) ≢ F.Field.ops.zero))) }
-    requires field { (F.Field.bits ≤ 16) × ((0 < F.Field.bits) × (F.Field.bits * length column_of.old < 2 ^ 32)) }
-    requires rows { (F.Field.bits * length column_of.old * width ≤ length m.old) × (8 * width < 2 ^ 32) }
+    requires field { (F.Field.BITS ≤ 16) × ((0 < F.Field.BITS) × (F.Field.BITS * length column_of.old < 2 ^ 32)) }
+    requires rows { (F.Field.BITS * length column_of.old * width ≤ length m.old) × (8 * width < 2 ^ 32) }
     requires order { (8 * width ≤ length order.now) × (((j : ℕ) → j < 8 * width → slice_index order.now j < length support.now)) }
-    ensures { (i j : ℕ) → i < F.Field.bits * length column_of.old → j < 8 * width → matrix width m.new i j ≡ mixed_matrix F.Field.ops F.Field.places (length column_of.old) g.now support.now order.now i j }
+    ensures { (i j : ℕ) → i < F.Field.BITS * length column_of.old → j < 8 * width → matrix width m.new i j ≡ mixed_matrix F.Field.ops F.Field.places (length column_of.old) g.now support.now order.now i j }
 {
     m.fill(0);
     for j in 0..8 * width {

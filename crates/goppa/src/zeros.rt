@@ -5,21 +5,19 @@ ghost use Rattle.polys.specs.Coefs.{poly, coefs};
 ghost use Rattle.polys.specs.Values.{value};
 ghost use Rattle.goppa.specs.Zeros.{linear, from_zeros, differences, Monic, Zeros, AllPlaces};
 
-use crate::add_product;
 use fields::field::{BinaryField, Field};
-use fields::read;
-use polys::arithmetic::clear;
+use fields::{add_product, read};
 
 // Multiplies a polynomial, whose last coefficient is zero, by X - a.
 pub fn times_linear<F: BinaryField>(p: &mut [u16], a: F)
     requires { (1 ≤ length p.old) × (Below F.Field.ops (length p.old - 1) (coefs F.Field.places p.old)) }
     ensures product { coefs F.Field.places p.new ≡ (poly F.Field.ops).mul (linear F.Field.ops a) (coefs F.Field.places p.old) }
-    ensures written { AllPlaces F.Field.bits p.new }
+    ensures written { AllPlaces F.Field.BITS p.new }
 {
     let mut before = F::zero();
-    for i in 0..p.len() {
-        let c = read::<F>(p[i]);
-        p[i] = add_product(before, a, c).place();
+    for x in p.iter_mut() {
+        let c = read::<F>(*x);
+        *x = add_product(before, a, c).place();
         before = c;
     }
 }
@@ -31,11 +29,11 @@ pub fn goppa_polynomial<F: BinaryField>(zeros: &[u16], g: &mut [u16])
     ensures monic { Monic F.Field.ops (length zeros.now) (coefs F.Field.places g.new) }
     ensures values { (x : F) → value F.Field.ops F.Field.places g.new x ≡ differences F.Field.ops (map F.Field.places.at zeros.now) x }
     ensures zeros { Zeros F.Field.ops F.Field.places (value F.Field.ops F.Field.places g.new) zeros.now }
-    ensures written { AllPlaces F.Field.bits g.new }
+    ensures written { AllPlaces F.Field.BITS g.new }
 {
-    clear(g);
+    g.fill(0);
     g[0] = F::one().place();
-    for i in (0..zeros.len()).rev() {
-        times_linear(g, read::<F>(zeros[i]));
+    for &b in zeros.iter().rev() {
+        times_linear(g, read::<F>(b));
     }
 }

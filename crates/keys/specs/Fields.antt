@@ -3,10 +3,8 @@ use Rattle.levels.specs.declared.Level.{Level}
 use Rattle.levels.specs.declared.Level.TheVariants.{Sample, Level128, Level192, Level256}
 use Rattle.levels.specs.Table.{sizes_of}
 use Rattle.algebra.specs.Field.{Ops, Places}
-use Rattle.field64.specs.declared.element.E64.{E64}
-use Rattle.field64.specs.Model.{ops64, places64}
-use Rattle.field8192.specs.declared.element.E8192.{E8192}
-use Rattle.field8192.specs.Model.{ops8192, places8192}
+use Rattle.field64.specs.Model.{E64, ops64, places64}
+use Rattle.field8192.specs.Model.{E8192, ops8192, places8192}
 
 abbrev pub ElementOf : Level → Type 0
 ElementOf Sample = E64

@@ -34,7 +34,7 @@ pub fn first_usable<F: BinaryField>(
     positions: &mut [Position],
 ) -> usize
     requires code { (length g.now ≡ length column.old + 1) × ((1 ≤ length column.old) × (((k : ℕ) → k < length support.now → value F.Field.ops F.Field.places g.now (F.Field.places.at (slice_index support.now k)) ≢ F.Field.ops.zero))) }
-    requires field { (F.Field.bits ≤ 16) × ((0 < F.Field.bits) × (F.Field.bits * length column.old ≡ 8 * body)) }
+    requires field { (F.Field.BITS ≤ 16) × ((0 < F.Field.BITS) × (F.Field.BITS * length column.old ≡ 8 * body)) }
     requires rows { (8 * body * body ≤ length square.old) × (8 * body < 2 ^ 32) }
     requires order { (length positions.old ≡ length support.now) × ((8 * body ≤ length positions.old) × (length positions.old < 2 ^ 32)) }
     ensures is { result ≡ first_place (count_of seeds.now) (λ i. independent (8 * body) (mixed_matrix F.Field.ops F.Field.places (length column.old) g.now support.now (order (length positions.old) (seed_of seeds.now i)))) }

@@ -25,9 +25,9 @@ use shuffles::order_by;
 // Writes all elements in the order of a code seed, and the polynomial g. No element of the support is a
 // zero of it.
 fn write_code<F: BinaryField>(sizes: &Sizes, seed: &[u8], code: &mut [Place], g: &mut [Place])
-    requires sizes { (Lawful sizes.now) × (F.Field.bits ≡ sizes.now.m) }
-    requires long { (length seed.now ≡ 32) × ((length code.old ≡ 2 ^ F.Field.bits) × (length g.old ≡ sizes.now.t + 1)) }
-    ensures support { support sizes.now.n code.new ≡ support_of_seed F.Field.bits sizes.now seed.now }
+    requires sizes { (Lawful sizes.now) × (F.Field.BITS ≡ sizes.now.m) }
+    requires long { (length seed.now ≡ 32) × ((length code.old ≡ 2 ^ F.Field.BITS) × (length g.old ≡ sizes.now.t + 1)) }
+    ensures support { support sizes.now.n code.new ≡ support_of_seed F.Field.BITS sizes.now seed.now }
     ensures g { g.new ≡ goppa_of F.Field.ops F.Field.places sizes.now seed.now }
     ensures long { length (support sizes.now.n code.new) ≡ sizes.now.n }
     ensures off { (k : ℕ) → k < length (support sizes.now.n code.new) → value F.Field.ops F.Field.places g.new (F.Field.places.at (slice_index (support sizes.now.n code.new) k)) ≢ F.Field.ops.zero }
@@ -48,13 +48,13 @@ fn first_seed<F: BinaryField>(
     column: &mut [Place],
     positions: &mut [Position],
 ) -> usize
-    requires sizes { (Lawful sizes.now) × (F.Field.bits ≡ sizes.now.m) }
+    requires sizes { (Lawful sizes.now) × (F.Field.BITS ≡ sizes.now.m) }
     requires seed { length code_seed.now ≡ 32 }
-    requires code { (length code.old ≡ 2 ^ F.Field.bits) × ((length g.old ≡ sizes.now.t + 1) × (length column.old ≡ sizes.now.t)) }
+    requires code { (length code.old ≡ 2 ^ F.Field.BITS) × ((length g.old ≡ sizes.now.t + 1) × (length column.old ≡ sizes.now.t)) }
     requires work { (length square.old ≡ sizes.now.rows * sizes.now.vector) × (length positions.old ≡ sizes.now.n) }
     ensures taken { result ≡ taken_of F.Field.ops F.Field.places sizes.now code_seed.now mixing_seeds.now }
     ensures within { result ≤ count_of mixing_seeds.now }
-    ensures support { support sizes.now.n code.new ≡ support_of_seed F.Field.bits sizes.now code_seed.now }
+    ensures support { support sizes.now.n code.new ≡ support_of_seed F.Field.BITS sizes.now code_seed.now }
     ensures g { g.new ≡ goppa_of F.Field.ops F.Field.places sizes.now code_seed.now }
     ensures long { length (support sizes.now.n code.new) ≡ sizes.now.n }
     ensures off { (k : ℕ) → k < length (support sizes.now.n code.new) → value F.Field.ops F.Field.places g.new (F.Field.places.at (slice_index (support sizes.now.n code.new) k)) ≢ F.Field.ops.zero }
@@ -82,7 +82,7 @@ fn write_hp<F: BinaryField>(
     hp: &mut [u8],
     positions: &mut [Position],
 )
-    requires sizes { (Lawful sizes.now) × (F.Field.bits ≡ sizes.now.m) }
+    requires sizes { (Lawful sizes.now) × (F.Field.BITS ≡ sizes.now.m) }
     requires code { (length g.now ≡ sizes.now.t + 1) × ((length support.now ≡ sizes.now.n) × (((k : ℕ) → k < length support.now → value F.Field.ops F.Field.places g.now (F.Field.places.at (slice_index support.now k)) ≢ F.Field.ops.zero))) }
     requires seed { length mixing.now ≡ 32 }
     requires work { (length column.old ≡ sizes.now.t) × ((sizes.now.rows * sizes.now.vector ≤ length hp.old) × (length positions.old ≡ sizes.now.n)) }
@@ -105,7 +105,7 @@ fn write_pair<F: BinaryField>(
     public_key: &mut [u8],
     secret_key: &mut [u8],
 )
-    requires sizes { (Lawful sizes.now) × (F.Field.bits ≡ sizes.now.m) }
+    requires sizes { (Lawful sizes.now) × (F.Field.BITS ≡ sizes.now.m) }
     requires code { (length g.now ≡ sizes.now.t + 1) × ((length support.now ≡ sizes.now.n) × (((k : ℕ) → k < length support.now → value F.Field.ops F.Field.places g.now (F.Field.places.at (slice_index support.now k)) ≢ F.Field.ops.zero))) }
     requires seeds { (length mixing.now ≡ 32) × (length decoy.now ≡ 32) }
     requires work { (length column.old ≡ sizes.now.t) × ((sizes.now.rows * sizes.now.vector ≤ length hp.old) × (length positions.old ≡ sizes.now.n)) }
@@ -132,7 +132,7 @@ fn write_taken<F: BinaryField>(
     public_key: &mut [u8],
     secret_key: &mut [u8],
 )
-    requires sizes { (Lawful sizes.now) × (F.Field.bits ≡ sizes.now.m) }
+    requires sizes { (Lawful sizes.now) × (F.Field.BITS ≡ sizes.now.m) }
     requires code { (length g.now ≡ sizes.now.t + 1) × ((length support.now ≡ sizes.now.n) × (((k : ℕ) → k < length support.now → value F.Field.ops F.Field.places g.now (F.Field.places.at (slice_index support.now k)) ≢ F.Field.ops.zero))) }
     requires seeds { (taken < count_of seeds.now) × (length decoy.now ≡ 32) }
     requires work { (length column.old ≡ sizes.now.t) × ((sizes.now.rows * sizes.now.vector ≤ length hp.old) × (length positions.old ≡ sizes.now.n)) }
@@ -161,9 +161,9 @@ fn make_parts<F: BinaryField>(
     column: &mut [Place],
     positions: &mut [Position],
 ) -> Result<(), Fault>
-    requires sizes { (Lawful sizes.now) × (F.Field.bits ≡ sizes.now.m) }
+    requires sizes { (Lawful sizes.now) × (F.Field.BITS ≡ sizes.now.m) }
     requires seeds { (length code_seed.now ≡ 32) × (length decoy_seed.now ≡ 32) }
-    requires code { (length code.old ≡ 2 ^ F.Field.bits) × ((length g.old ≡ sizes.now.t + 1) × (length column.old ≡ sizes.now.t)) }
+    requires code { (length code.old ≡ 2 ^ F.Field.BITS) × ((length g.old ≡ sizes.now.t + 1) × (length column.old ≡ sizes.now.t)) }
     requires work { (length hp.old ≡ sizes.now.rows * sizes.now.vector) × (length positions.old ≡ sizes.now.n) }
     requires keys { (length public_key.old ≡ sizes.now.public_key) × (length secret_key.old ≡ sizes.now.secret_key) }
     ensures answer { result ≡ answer (seed_row F.Field.ops F.Field.places sizes.now code_seed.now mixing_seeds.now ∷ []) }
@@ -209,7 +209,7 @@ pub fn make_with<F: BinaryField>(
     secret_key: &mut [u8],
     work: &mut Work<'_>,
 ) -> Result<(), Fault>
-    requires sizes { (Lawful sizes.now) × (F.Field.bits ≡ sizes.now.m) }
+    requires sizes { (Lawful sizes.now) × (F.Field.BITS ≡ sizes.now.m) }
     requires seeds { (length code_seed.now ≡ 32) × (length decoy_seed.now ≡ 32) }
     requires work { (sizes.now.work_bytes ≤ length work.old.bytes.now) × ((sizes.now.work_places ≤ length work.old.places.now) × (sizes.now.work_places ≤ length work.old.positions.now)) }
     requires keys { (length public_key.old ≡ sizes.now.public_key) × (length secret_key.old ≡ sizes.now.secret_key) }

@@ -1,22 +1,16 @@
 // The arithmetic of polynomials.
-ghost use Rattle.std.specs.Prelude.{◌≡◌, ◌+◌, ◌-◌, ◌<◌, ◌≤◌, length, replicate, MatchOption};
+ghost use Rattle.std.specs.Prelude.{◌≡◌, ◌+◌, ◌-◌, ◌<◌, ◌≤◌, length, MatchOption};
 ghost use Rattle.algebra.specs.Series.{Below, Degree};
 ghost use Rattle.polys.specs.Coefs.{poly, coefs, Placed, mono, Lead, Division, OneDivision};
 
 use fields::field::{BinaryField, Field};
-use fields::{is_zero, read};
-
-// Makes every coefficient zero.
-pub fn clear(p: &mut [u16])
-    ensures { p.new ≡ replicate (length p.old) 0 }
-{
-    p.fill(0);
-}
+use fields::{add_product, is_zero, read};
 
 // The degree, where it is at least `stop`.
 pub fn degree_from<F: BinaryField>(p: &[u16], stop: usize) -> Option<usize>
     ensures { MatchOption result (Below F.Field.ops stop (coefs F.Field.places p.now)) (λ n. (stop ≤ n) × (n < length p.now) × Degree F.Field.ops n (coefs F.Field.places p.now)) }
 {
+    // No `find`: the library's lemmas on it know of a range that goes up alone, and a proof of it would outgrow this loop's.
     for i in (stop..p.len()).rev() {
         if !is_zero(read::<F>(p[i])) {
             return Some(i);
@@ -36,11 +30,10 @@ pub fn degree<F: BinaryField>(p: &[u16]) -> Option<usize>
 pub fn add<F: BinaryField>(into: &mut [u16], p: &[u16])
     requires { length p.now ≤ length into.old }
     ensures is { coefs F.Field.places into.new ≡ (poly F.Field.ops).add (coefs F.Field.places into.old) (coefs F.Field.places p.now) }
-    ensures placed { Placed F.Field.bits into.old → Placed F.Field.bits into.new }
+    ensures placed { Placed F.Field.BITS into.old → Placed F.Field.BITS into.new }
 {
-    for i in 0..p.len() {
-        let x = read::<F>(into[i]);
-        into[i] = x.sum(read::<F>(p[i])).place();
+    for (i, &x) in p.iter().enumerate() {
+        into[i] = read::<F>(into[i]).sum(read::<F>(x)).place();
     }
 }
 
@@ -48,12 +41,10 @@ pub fn add<F: BinaryField>(into: &mut [u16], p: &[u16])
 pub fn add_multiple<F: BinaryField>(into: &mut [u16], p: &[u16], c: F)
     requires { length p.now ≤ length into.old }
     ensures is { coefs F.Field.places into.new ≡ (poly F.Field.ops).add (coefs F.Field.places into.old) ((poly F.Field.ops).mul (mono F.Field.ops c 0) (coefs F.Field.places p.now)) }
-    ensures placed { Placed F.Field.bits into.old → Placed F.Field.bits into.new }
+    ensures placed { Placed F.Field.BITS into.old → Placed F.Field.BITS into.new }
 {
-    for i in 0..p.len() {
-        let x = read::<F>(into[i]);
-        let y = c.product(read::<F>(p[i]));
-        into[i] = x.sum(y).place();
+    for (i, &x) in p.iter().enumerate() {
+        into[i] = add_product(read::<F>(into[i]), c, read::<F>(x)).place();
     }
 }
 
@@ -61,7 +52,7 @@ pub fn add_multiple<F: BinaryField>(into: &mut [u16], p: &[u16], c: F)
 pub fn add_scaled<F: BinaryField>(into: &mut [u16], p: &[u16], c: F, shift: usize)
     requires { shift + length p.now ≤ length into.old }
     ensures is { coefs F.Field.places into.new ≡ (poly F.Field.ops).add (coefs F.Field.places into.old) ((poly F.Field.ops).mul (mono F.Field.ops c shift) (coefs F.Field.places p.now)) }
-    ensures placed { Placed F.Field.bits into.old → Placed F.Field.bits into.new }
+    ensures placed { Placed F.Field.BITS into.old → Placed F.Field.BITS into.new }
 {
     add_multiple(&mut into[shift..], p, c);
 }
@@ -70,11 +61,11 @@ pub fn add_scaled<F: BinaryField>(into: &mut [u16], p: &[u16], c: F, shift: usiz
 pub fn product<F: BinaryField>(out: &mut [u16], p: &[u16], q: &[u16])
     requires { length p.now + length q.now ≤ length out.old + 1 }
     ensures is { coefs F.Field.places out.new ≡ (poly F.Field.ops).mul (coefs F.Field.places p.now) (coefs F.Field.places q.now) }
-    ensures placed { Placed F.Field.bits out.new }
+    ensures placed { Placed F.Field.BITS out.new }
 {
-    clear(out);
-    for i in 0..p.len() {
-        add_scaled(out, q, read::<F>(p[i]), i);
+    out.fill(0);
+    for (i, &c) in p.iter().enumerate() {
+        add_scaled(out, q, read::<F>(c), i);
     }
 }
 
@@ -84,23 +75,18 @@ pub fn leading_inverse<F: BinaryField>(p: &[u16], n: usize) -> F
     ensures is { result ≡ F.Field.ops.inv (coefs F.Field.places p.now n) }
     ensures lead { Lead F.Field.ops n result (coefs F.Field.places p.now) }
 {
-    match read::<F>(p[n]).inverse() {
-        Some(e) => e,
-        None => unreachable(),
-    }
+    read::<F>(p[n]).inverse().unwrap()
 }
 
 // Division with remainder: `rem` holds the dividend, and then the remainder. The result is the
 // degree of the divisor; absent where the divisor is zero.
 pub fn divide<F: BinaryField>(rem: &mut [u16], quot: &mut [u16], d: &[u16]) -> Option<usize>
     requires { length rem.old ≤ length quot.old }
-    ensures { MatchOption result ((coefs F.Field.places d.now ≡ (poly F.Field.ops).zero) × (rem.new ≡ rem.old) × (quot.new ≡ quot.old)) (λ n. Division F.Field.ops n (coefs F.Field.places rem.old) (coefs F.Field.places d.now) (coefs F.Field.places quot.new) (coefs F.Field.places rem.new) × Placed F.Field.bits quot.new × (Placed F.Field.bits rem.old → Placed F.Field.bits rem.new)) }
+    ensures { MatchOption result ((coefs F.Field.places d.now ≡ (poly F.Field.ops).zero) × (rem.new ≡ rem.old) × (quot.new ≡ quot.old)) (λ n. Division F.Field.ops n (coefs F.Field.places rem.old) (coefs F.Field.places d.now) (coefs F.Field.places quot.new) (coefs F.Field.places rem.new) × Placed F.Field.BITS quot.new × (Placed F.Field.BITS rem.old → Placed F.Field.BITS rem.new)) }
 {
-    let Some(k) = degree::<F>(d) else {
-        return None;
-    };
+    let k = degree::<F>(d)?;
     let e = leading_inverse::<F>(d, k);
-    clear(quot);
+    quot.fill(0);
     for n in (k..rem.len()).rev() {
         let c = read::<F>(rem[n]).product(e);
         quot[n - k] = c.place();
@@ -112,10 +98,10 @@ pub fn divide<F: BinaryField>(rem: &mut [u16], quot: &mut [u16], d: &[u16]) -> O
 // Multiplies every coefficient by c.
 pub fn scale<F: BinaryField>(p: &mut [u16], c: F)
     ensures is { coefs F.Field.places p.new ≡ (poly F.Field.ops).mul (mono F.Field.ops c 0) (coefs F.Field.places p.old) }
-    ensures placed { Placed F.Field.bits p.new }
+    ensures placed { Placed F.Field.BITS p.new }
 {
-    for i in 0..p.len() {
-        p[i] = c.product(read::<F>(p[i])).place();
+    for x in p.iter_mut() {
+        *x = c.product(read::<F>(*x)).place();
     }
 }
 
@@ -123,7 +109,7 @@ pub fn scale<F: BinaryField>(p: &mut [u16], c: F)
 pub fn make_monic<F: BinaryField>(p: &mut [u16], n: usize)
     requires { (n < length p.old) × (Degree F.Field.ops n (coefs F.Field.places p.old)) }
     ensures is { coefs F.Field.places p.new ≡ (poly F.Field.ops).mul (mono F.Field.ops (F.Field.ops.inv (coefs F.Field.places p.old n)) 0) (coefs F.Field.places p.old) }
-    ensures placed { Placed F.Field.bits p.new }
+    ensures placed { Placed F.Field.BITS p.new }
 {
     let e = leading_inverse::<F>(p, n);
     scale(p, e);

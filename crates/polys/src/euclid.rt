@@ -1,12 +1,13 @@
 // Euclid's rule, and what follows from it: the greatest common divisor and the inverse modulo a
-// polynomial.
-ghost use Rattle.std.specs.Prelude.{◌≡◌, ◌+◌, ◌-◌, ◌<◌, ◌≤◌, true, false, length, ◌≢◌};
+// polynomial. Its four slices stay loose: a struct that borrows them proves its own methods, but who lends them to it
+// learns no more than their lengths once it is gone.
+ghost use Rattle.std.specs.Prelude.{◌≡◌, ◌+◌, ◌-◌, ◌<◌, ◌≤◌, length, MatchOption, ◌≢◌};
 ghost use Rattle.algebra.specs.Series.{Below, Degree};
 ghost use Rattle.polys.specs.Coefs.{poly, coefs, Placed};
 ghost use Rattle.polys.specs.Euclid.{Reduced, Euclid, Gcd, Inverse, Shared, OneGcd, OneInverse};
 ghost use Rattle.polys.specs.Values.{value, AtPoints};
 
-use crate::arithmetic::{add_scaled, clear, degree_from, leading_inverse, make_monic, scale};
+use crate::arithmetic::{add_scaled, degree_from, leading_inverse, make_monic, scale};
 use fields::field::{BinaryField, Field};
 use fields::read;
 
@@ -52,8 +53,8 @@ pub fn euclid<F: BinaryField>(
     ensures factor { coefs F.Field.places b.new ≢ (poly F.Field.ops).zero }
     ensures last { (stop ≤ result) × (Below F.Field.ops stop (coefs F.Field.places r.new)) }
 {
-    clear(a);
-    clear(b);
+    a.fill(0);
+    b.fill(0);
     b[0] = F::one().place();
     let mut n = top;
     while let Some(k) = degree_from::<F>(r, stop) {
@@ -78,33 +79,30 @@ pub fn gcd<F: BinaryField>(
     requires degree { Degree F.Field.ops top (coefs F.Field.places s.old) }
     requires under { Below F.Field.ops top (coefs F.Field.places r.old) }
     ensures is { Gcd F.Field.ops top result (coefs F.Field.places s.old) (coefs F.Field.places r.old) (coefs F.Field.places s.new) }
-    ensures placed { Placed F.Field.bits s.new }
+    ensures placed { Placed F.Field.BITS s.new }
 {
     let n = euclid::<F>(s, r, a, b, top, 0);
     make_monic::<F>(s, n);
     n
 }
 
-// Whether r, of a lower degree than s, has an inverse modulo s, whose degree is `top`; b then holds
-// it.
+// Writes the inverse of r, of a lower degree than s, modulo s, whose degree is `top`, to b: absent where r has none.
 pub fn inverse<F: BinaryField>(
     s: &mut [u16],
     r: &mut [u16],
     a: &mut [u16],
     b: &mut [u16],
     top: usize,
-) -> bool
+) -> Option<()>
     requires fits { (1 ≤ top) × ((top < length s.old) × ((length r.old ≡ length s.old) × ((length b.old ≡ length a.old) × (top ≤ length a.old)))) }
     requires degree { Degree F.Field.ops top (coefs F.Field.places s.old) }
     requires under { Below F.Field.ops top (coefs F.Field.places r.old) }
-    ensures { elim result [ true ↦ Inverse F.Field.ops top (coefs F.Field.places s.old) (coefs F.Field.places r.old) (coefs F.Field.places b.new) × Placed F.Field.bits b.new | false ↦ Shared F.Field.ops (coefs F.Field.places s.old) (coefs F.Field.places r.old) ] }
+    ensures { MatchOption result (Shared F.Field.ops (coefs F.Field.places s.old) (coefs F.Field.places r.old)) (λ _. Inverse F.Field.ops top (coefs F.Field.places s.old) (coefs F.Field.places r.old) (coefs F.Field.places b.new) × Placed F.Field.BITS b.new) }
 {
     euclid::<F>(s, r, a, b, top, 1);
-    let Some(e) = read::<F>(r[0]).inverse() else {
-        return false;
-    };
+    let e = read::<F>(r[0]).inverse()?;
     scale(b, e);
-    true
+    Some(())
 }
 
 // Two polynomials have one greatest common divisor.

@@ -2,26 +2,16 @@
 ghost use Rattle.std.specs.Prelude.{◌≡◌, ℕ, ◌<◌, ◌≤◌, length, slice_index};
 ghost use Rattle.polys.specs.Values.{value};
 
-use crate::arithmetic::clear;
 use fields::field::{BinaryField, Field};
-use fields::read;
-
-// A step of Horner's rule: c + x·v.
-fn horner_step<F: Field>(c: F, x: F, v: F) -> F
-    ensures { result ≡ F.Field.ops.add c (F.Field.ops.mul x v) }
-{
-    c.sum(x.product(v))
-}
+use fields::{add_product, read};
 
 // The value at x.
 pub fn value_at<F: BinaryField>(p: &[u16], x: F) -> F
     ensures { result ≡ value F.Field.ops F.Field.places p.now x }
 {
-    let mut sum = F::zero();
-    for i in (0..p.len()).rev() {
-        sum = horner_step(read::<F>(p[i]), x, sum);
-    }
-    sum
+    p.iter()
+        .rev()
+        .fold(F::zero(), |sum, &c| add_product(read::<F>(c), x, sum))
 }
 
 // A step of Horner's rule at every point x: each value v becomes c + x·v.
@@ -30,9 +20,8 @@ pub fn horner_steps<F: BinaryField>(values: &mut [u16], points: &[u16], c: F)
     ensures step { (j : ℕ) → j < length points.now → slice_index values.new j ≡ F.Field.places.num (F.Field.ops.add c (F.Field.ops.mul (F.Field.places.at (slice_index points.now j)) (F.Field.places.at (slice_index values.old j)))) }
     ensures rest { (j : ℕ) → length points.now ≤ j → slice_index values.new j ≡ slice_index values.old j }
 {
-    for i in 0..points.len() {
-        let x = read::<F>(points[i]);
-        values[i] = horner_step(c, x, read::<F>(values[i])).place();
+    for (i, &x) in points.iter().enumerate() {
+        values[i] = add_product(c, read::<F>(x), read::<F>(values[i])).place();
     }
 }
 
@@ -42,8 +31,8 @@ pub fn values_at<F: BinaryField>(values: &mut [u16], p: &[u16], points: &[u16])
     ensures each { (j : ℕ) → j < length points.now → slice_index values.new j ≡ F.Field.places.num (value F.Field.ops F.Field.places p.now (F.Field.places.at (slice_index points.now j))) }
     ensures rest { (j : ℕ) → length points.now ≤ j → slice_index values.new j ≡ 0 }
 {
-    clear(values);
-    for i in (0..p.len()).rev() {
-        horner_steps(values, points, read::<F>(p[i]));
+    values.fill(0);
+    for &c in p.iter().rev() {
+        horner_steps(values, points, read::<F>(c));
     }
 }

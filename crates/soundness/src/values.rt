@@ -69,8 +69,8 @@ fn zeros_from<F: BinaryField>(
 // How many zeros g has in the field. The places are tried as many at a time as half of the work
 // memory takes.
 pub fn zeros_in_field<F: BinaryField>(g: &[Place], work: &mut [Place]) -> usize
-    requires { (2 ≤ length work.old) × (F.Field.bits ≤ 16) }
-    ensures { result ≡ weight (2 ^ F.Field.bits) (zero_at F.Field.ops F.Field.places g.now) }
+    requires { (2 ≤ length work.old) × (F.Field.BITS ≤ 16) }
+    ensures { result ≡ weight (2 ^ F.Field.BITS) (zero_at F.Field.ops F.Field.places g.now) }
 {
     let size = size::<F>();
     let half = work.len() / 2;

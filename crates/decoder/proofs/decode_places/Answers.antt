@@ -13,8 +13,8 @@ use Rattle.decoder.proofs.decode_places.Goals as goal
 perfect : (g : Rattle.decoder.proofs.decode_places.Given.Over) → Perfect g.F.Field.ops
 perfect g = record { laws = g.met.F.Field.laws; same = same_from g.F.Field.places; roots = g.met.F.BinaryField.roots }
 
-pub returns-then-not-locate_within : goal.returns-then-not-locate_within
-returns-then-not-locate_within g c =
+pub returns-in_err-locate_within : goal.returns-in_err-locate_within
+returns-in_err-locate_within g c =
     let f = g.F.Field.ops in
     let pl = g.F.Field.places in
     let t = c.args.t in
@@ -23,10 +23,11 @@ returns-then-not-locate_within g c =
     let s = c.args.s.now in
     let zs = c.requires.code.0.0 in
     let code = c.requires.code.0.1 in
-    let some = c.requires.code.1.1.1 in (
-      none_left (perfect g) pl g.met.F.Field.origin g.met.F.Field.sums t G sup zs s (bits_of g.F.Field.bits s) c.requires.code.1.0 c.requires.syndrome.0 some
+    let some = c.requires.code.1.1.1 in
+    rw c.from_residual.ensures (
+      none_left (perfect g) pl g.met.F.Field.origin g.met.F.Field.sums t G sup zs s (bits_of g.F.Field.BITS s) c.requires.code.1.0 c.requires.syndrome.0 some
           c.requires.syndrome.1.1 c.requires.syndrome.1.0 (λ i l. refl) code
-          (c.if-not-locate_within.ensures (map pl.at zs) (map pl.at sup) (goppa_code f pl t G sup zs some code)),
+          (c.in_err-locate_within.ensures (map pl.at zs) (map pl.at sup) (goppa_code f pl t G sup zs some code)),
       search rules,
     )
 
@@ -42,10 +43,10 @@ returns-then-not-is_error g c =
     let code = c.requires.code.0.1 in
     let some = c.requires.code.1.1.1 in
     let e = vector c.mark_zeros.new.out in
-    let is = bits_of g.F.Field.bits s in (
+    let is = bits_of g.F.Field.BITS s in (
       refused (perfect g) pl g.met.F.Field.origin g.met.F.Field.sums t G sup zs s is c.requires.code.1.0 c.requires.syndrome.0 some
           c.requires.syndrome.1.1 c.requires.syndrome.1.0 (λ i l. refl) code
-          (value f pl c.locate_within.new.out) (c.if-not-locate_within.ensures (map pl.at zs) (map pl.at sup) (goppa_code f pl t G sup zs some code))
+          (value f pl c.locate_within.new.out) (c.in_ok-locate_within.ensures (map pl.at zs) (map pl.at sup) (goppa_code f pl t G sup zs some code))
           e c.mark_zeros.ensures
           (λ h. false_not_true (sym c.if-not-is_error.true ∙ c.is_error.ensures.1 (subst (λ (n : ℕ). ErrorOf f pl n G sup is e) (sym c.requires.syndrome.0) h))),
       search rules,
@@ -63,9 +64,9 @@ returns g c =
     let code = c.requires.code.0.1 in
     let some = c.requires.code.1.1.1 in
     let e = vector c.mark_zeros.new.out in
-    let is = bits_of g.F.Field.bits s in
+    let is = bits_of g.F.Field.BITS s in
     accepted (perfect g) pl g.met.F.Field.origin g.met.F.Field.sums t G sup zs s is c.requires.code.1.0 c.requires.syndrome.0 some
     c.requires.syndrome.1.1 c.requires.syndrome.1.0 (λ i l. refl) code
-    (value f pl c.locate_within.new.out) (c.if-not-locate_within.ensures (map pl.at zs) (map pl.at sup) (goppa_code f pl t G sup zs some code))
+    (value f pl c.locate_within.new.out) (c.in_ok-locate_within.ensures (map pl.at zs) (map pl.at sup) (goppa_code f pl t G sup zs some code))
     e c.mark_zeros.ensures
     (subst (λ (n : ℕ). ErrorOf f pl n G sup is e) c.requires.syndrome.0 (c.is_error.ensures.0 c.if-not-is_error.false))

@@ -21,7 +21,7 @@ returns-then-at-sizes g c =
     let l : c.order_by.new.positions ≡ order s.n (mixing_in s key) =
     order_read s key c.order_by.new.positions (length c.args.positions.now) (omega arith) c.order_by.ensures.after in
     let same : (i j : ℕ) → i < s.rows → j < s.rows → B i j ≡ HP i j =
-    mixed_front f pl s key c.args.support.now c.args.g.now c.requires.code.1.0 c.requires.code.0 h g.F.Field.bits (length c.args.column.now) B c.order_by.new.positions
+    mixed_front f pl s key c.args.support.now c.args.g.now c.requires.code.1.0 c.requires.code.0 h g.F.Field.BITS (length c.args.column.now) B c.order_by.new.positions
     (mixing_in s key) c.requires.sizes.1.0 (omega arith) l refl c.write_mixed.ensures in
     let e₁ =
     difference_number s.rows (matrix_in s key) at (8 * s.body) B HP h.body same
@@ -41,7 +41,7 @@ returns-then-found-sizes g c =
     let l : c.order_by.new.positions ≡ order s.n (mixing_in s key) =
     order_read s key c.order_by.new.positions (length c.args.positions.now) (omega arith) c.order_by.ensures.after in
     let same : (i j : ℕ) → i < s.rows → j < s.rows → B i j ≡ HP i j =
-    mixed_front f pl s key c.args.support.now c.args.g.now c.requires.code.1.0 c.requires.code.0 h g.F.Field.bits (length c.args.column.now) B c.order_by.new.positions
+    mixed_front f pl s key c.args.support.now c.args.g.now c.requires.code.1.0 c.requires.code.0 h g.F.Field.BITS (length c.args.column.now) B c.order_by.new.positions
     (mixing_in s key) c.requires.sizes.1.0 (omega arith) l refl c.write_mixed.ensures in
     let e₁ =
     difference_number s.rows (matrix_in s key) at (8 * s.body) B HP h.body same
@@ -62,7 +62,7 @@ returns g c =
     let l : c.order_by.new.positions ≡ order s.n (mixing_in s key) =
     order_read s key c.order_by.new.positions (length c.args.positions.now) (omega arith) c.order_by.ensures.after in
     let same : (i j : ℕ) → i < s.rows → j < s.rows → B i j ≡ HP i j =
-    mixed_front f pl s key c.args.support.now c.args.g.now c.requires.code.1.0 c.requires.code.0 h g.F.Field.bits (length c.args.column.now) B c.order_by.new.positions
+    mixed_front f pl s key c.args.support.now c.args.g.now c.requires.code.1.0 c.requires.code.0 h g.F.Field.BITS (length c.args.column.now) B c.order_by.new.positions
     (mixing_in s key) c.requires.sizes.1.0 (omega arith) l refl c.write_mixed.ensures in
     let e₁ =
     difference_number s.rows (matrix_in s key) at (8 * s.body) B HP h.body same

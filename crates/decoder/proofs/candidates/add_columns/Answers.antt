@@ -1,4 +1,4 @@
-use Rattle.std.proofs.Common.{◌≡◌, cond, length, get_or, sym, ap, ◌∙◌, ap₂, arith}
+use Rattle.std.proofs.Common.{rules, replicate, ◌≡◌, cond, length, get_or, sym, ap, ◌∙◌, ap₂, arith}
 use Rattle.algebra.specs.Series.{Series}
 use Rattle.bits.specs.Packed.{vector}
 use Rattle.polys.specs.Coefs.{coefs}
@@ -15,9 +15,10 @@ unfolding column_sum selected
 loop-j-init g c =
     let k = g.met.F.Field.laws in
     let pl = g.F.Field.places in
-    let n = length c.args.sum.now in (
-      λ r l. ap (λ (s : Series g.row.F.Denot). s r) (ap (coefs pl) c.clear.ensures ∙ coefs_zeros k pl g.met.F.Field.origin n) ∙ at_zero k r,
-      placed_zeros g.F.Field.bits n _ c.clear.ensures,
+    let n = length c.args.sum.now in
+    let zeros : c.fill.new.self ≡ replicate n 0 = search rules in (
+      λ r l. ap (λ (s : Series g.row.F.Denot). s r) (ap (coefs pl) zeros ∙ coefs_zeros k pl g.met.F.Field.origin n) ∙ at_zero k r,
+      placed_zeros g.F.Field.BITS n _ zeros,
     )
 
 pub loop-j-preserved : goal.loop-j-preserved
@@ -28,7 +29,7 @@ loop-j-preserved g c =
     let sup = c.args.support.now in
     let e = vector c.args.e.now in
     let j = c.loop-j.j in
-    let t = length c.clear.new.p in
+    let t = length c.fill.new.self in
     let en : length c.loop-j.sum ≡ t = omega arith in (
       λ r l.
           c.add_chosen.ensures.sum r (omega arith)
@@ -44,7 +45,7 @@ returns g c =
     let f = g.F.Field.ops in
     let pl = g.F.Field.places in
     let sum = c.loop-j.sum in
-    let en : length c.clear.new.p ≡ length c.args.sum.now = omega arith in
+    let en : length c.fill.new.self ≡ length c.args.sum.now = omega arith in
     let end : c.loop-j.j ≡ length c.args.support.now = omega arith in
     λ r l.
     sym (pl.num_at (get_or sum r 0) (c.loop-j.invariant.1 r))

@@ -1,5 +1,7 @@
 use Rattle.std.proofs.Common.{◌≡◌, length, get_or, sym, refl, ap, ◌∙◌, arith}
+use Rattle.std.specs.Cmp.{unsigned_Decides}
 use Rattle.std.proofs.lemmas.List.{ext_get_or}
+use Rattle.std.proofs.lemmas.Slice.Eq.{slice_eq-Decides}
 use Rattle.bits.specs.Packed.{vector}
 use Rattle.matrices.specs.Columns.{bits_of}
 use Rattle.decoder.specs.Sums.{column_sum}
@@ -13,7 +15,7 @@ returns g c =
     let pl = g.F.Field.places in
     let z = g.met.F.Field.origin in
     let xor = g.met.F.Field.sums in
-    let m = g.F.Field.bits in
+    let m = g.F.Field.BITS in
     let G = c.args.g.now in
     let sup = c.args.support.now in
     let s = c.args.s.now in
@@ -23,13 +25,14 @@ returns g c =
     let en : length c.args.sum.now ≡ t = c.requires.fits.1.0 in
     let pos = c.requires.syndrome.1 in
     let placed = c.requires.syndrome.0 in
-    let made = c.add_columns.ensures in (
+    let made = c.add_columns.ensures in
+    let decides = slice_eq-Decides unsigned_Decides sum s c.eq.result c.eq.ensures in (
       λ same. record {
         weighs = omega arith;
         sums = sums_from k pl z xor t G sup s (bits_of m s) pos placed (λ i l. refl) e
-            (λ r l. ap (λ xs. get_or xs r 0) (sym (c.same.ensures.0 same)) ∙ made r (omega arith) ∙ ap (λ n. pl.num (column_sum f pl n G sup (length sup) e r)) en);
+            (λ r l. ap (λ xs. get_or xs r 0) (sym (decides.0 same)) ∙ made r (omega arith) ∙ ap (λ n. pl.num (column_sum f pl n G sup (length sup) e r)) en);
       },
-      λ h. c.same.ensures.1 (ext_get_or 0 sum s (omega arith)
+      λ h. decides.1 (ext_get_or 0 sum s (omega arith)
           (λ r l. made r (omega arith) ∙ ap (λ n. pl.num (column_sum f pl n G sup (length sup) e r)) en
           ∙ sym (sums_are k pl z xor t G sup s (bits_of m s) pos placed (λ i l. refl) e h.sums r (omega arith)))),
     )

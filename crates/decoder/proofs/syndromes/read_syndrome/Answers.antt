@@ -13,38 +13,34 @@ row_within m r t l = let h : m * suc r ≤ m * t = mul-le m (suc r) m t (omega a
 
 pub overflow_mul-m : goal.overflow_mul-m
 overflow_mul-m g c =
-    let m = g.F.Field.bits in
-    let em : c.get-m.result ≡ m = c.get-m.ensures ∙ g.met.F.Field.degree in
-    let P : ℕ → Type 0 = λ n. n * c.loop-r.r < 2 ^ 64 in
+    let m = g.F.Field.BITS in
     let h : m * c.loop-r.r < 2 ^ 64 = omega (arith, row_within m c.loop-r.r (length c.args.s.now) c.loop-r-test.true, c.requires.fits.1) in
-    let small : c.get-m.result * c.loop-r.r < 2 ^ 64 = subst P (sym em) h in
+    let small : c.BITS-m.result * c.loop-r.r < 2 ^ 64 = rw c.BITS-m.ensures h in
     omega (arith, small)
 
 pub number_at-requires : goal.number_at-requires
 number_at-requires g c =
-    let m = g.F.Field.bits in
+    let m = g.F.Field.BITS in
     let r = c.loop-r.r in
-    let em : c.get-m.result ≡ m = c.get-m.ensures ∙ g.met.F.Field.degree in
     let h = row_within m r (length c.args.s.now) c.loop-r-test.true in
     let n = length c.args.syndrome.now in
     let P : ℕ → Type 0 = λ d. (d ≤ 16) × ((d * r + d ≤ 8 * n) × (d * r + d < 2 ^ 64)) in
-    subst P (sym em) (c.requires.field.1, (omega (arith, h, c.requires.fits.0), omega (arith, h, c.requires.fits.1)))
+    subst P (sym c.BITS-m.ensures) (c.requires.field.1, (omega (arith, h, c.requires.fits.0), omega (arith, h, c.requires.fits.1)))
 
 pub loop-r-preserved : goal.loop-r-preserved
 loop-r-preserved g c =
-    let m = g.F.Field.bits in
-    let em : c.get-m.result ≡ m = c.get-m.ensures ∙ g.met.F.Field.degree in
+    let m = g.F.Field.BITS in
     let v = vector c.args.syndrome.now in
     let r = c.loop-r.r in
     let x = c.number_at.result in
     let R : ℕ → ℕ → Type 0 = λ j y. (y < 2 ^ m) × ((i : ℕ) → i < m → number_bit y i ≡ v (m * j + i)) in
     let P : ℕ → Type 0 = λ d. (x < 2 ^ d) × ((i : ℕ) → i < d → number_bit x i ≡ v (d * r + i)) in
-    below_set c.loop-r.s r x (omega arith) R c.loop-r.invariant (subst P em (c.number_at.ensures.below, c.number_at.ensures.bits))
+    below_set c.loop-r.s r x (omega arith) R c.loop-r.invariant (subst P c.BITS-m.ensures (c.number_at.ensures.below, c.number_at.ensures.bits))
 
 pub returns : goal.returns
 unfolding bits_of
 returns g c =
-    let m = g.F.Field.bits in
+    let m = g.F.Field.BITS in
     let s = c.loop-r.s in
     let t = length c.args.s.now in
     let v = vector c.args.syndrome.now in

@@ -5,5 +5,5 @@ use Rattle.decoder.proofs.syndromes.read_syndrome.Given as goal
 
 abbrev pub invariant-loop-r : goal.invariant-loop-r
 invariant-loop-r g l =
-    let m = g.F.Field.bits in
+    let m = g.F.Field.BITS in
     (j : ℕ) → j < l.r → (get_or l.s j 0 < 2 ^ m) × ((i : ℕ) → i < m → number_bit (get_or l.s j 0) i ≡ vector l.syndrome (m * j + i))

@@ -1,4 +1,4 @@
-use Rattle.std.proofs.Common.{◌≡◌, ◌+◌, ◌*◌, ◌<◌, length, get_or, sym, ap, ◌∙◌, ap₂, arith}
+use Rattle.std.proofs.Common.{rules, replicate, ◌≡◌, ◌+◌, ◌*◌, ◌<◌, length, get_or, sym, ap, ◌∙◌, ap₂, arith}
 use native.Mathlib.Decide.{dec_lt}
 use Rattle.algebra.proofs.Rings.{ring_laws, mul_zero}
 use Rattle.polys.specs.Coefs.{coefs}
@@ -7,7 +7,9 @@ use Rattle.polys.proofs.Points.{below_set, above_set}
 use Rattle.decoding.proofs.roots.every_other_root.Goals as goal
 
 pub loop-j-init : goal.loop-j-init
-loop-j-init g c = (λ i h. absurd (omega arith), λ i h. ap (λ l. get_or l i 0) c.clear.ensures ∙ get_d_zeros (length c.args.out.now) i)
+loop-j-init g c =
+    let zeros : c.fill.new.self ≡ replicate (length c.args.out.now) 0 = search rules in
+    (λ i h. absurd (omega arith), λ i h. ap (λ l. get_or l i 0) zeros ∙ get_d_zeros (length c.args.out.now) i)
 
 pub loop-j-preserved : goal.loop-j-preserved
 loop-j-preserved g c =

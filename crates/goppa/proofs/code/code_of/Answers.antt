@@ -7,12 +7,12 @@ use Rattle.goppa.specs.Codes.{code_list}
 use Rattle.goppa.proofs.code.code_of.Goals as goal
 
 pub count_up-requires : goal.count_up-requires
-count_up-requires g c = subst (λ (n : ℕ). n ≤ 2 ^ 16) (sym c.requires.long.0) (pow_mono {i = g.F.Field.bits} {j = 16} c.requires.long.1)
+count_up-requires g c = subst (λ (n : ℕ). n ≤ 2 ^ 16) (sym c.requires.long.0) (pow_mono {i = g.F.Field.BITS} {j = 16} c.requires.long.1)
 
 pub returns : goal.returns
 unfolding order
 returns g c =
-    let m = g.F.Field.bits in
+    let m = g.F.Field.BITS in
     let seed = c.args.seed.now in
     let counted : c.count_up.new.places ≡ range_with_len 0 (2 ^ m) = c.count_up.ensures ∙ ap (range_with_len 0) c.requires.long.0 in
     let shuffles : c.shuffle.new.items ≡ shuffled seed c.count_up.new.places = c.shuffle.ensures.after in

@@ -12,17 +12,16 @@ pub returns : goal.returns
 returns g c =
     let f = g.F.Field.ops in
     let pl = g.F.Field.places in
-    let bits = g.F.Field.bits in
+    let bits = g.F.Field.BITS in
     let gs = c.args.g.now in
     let n = length c.args.column_of.now in
     let q = c.column.new.out in
-    let eb : c.get.result ≡ bits = c.get.ensures ∙ g.met.F.Field.degree in
     let en : length q ≡ n = omega arith in
     let here : Column f pl n gs c.read.result q =
     sure c.column.result _ _ c.column.ensures (λ z. c.requires.code.1.1 (ap (value f pl gs) (sym c.read.ensures) ∙ z.0)) in
     let col : Column f pl n gs (pl.at c.args.x) q = rw c.read.ensures at here in
     let added : ColumnAdded 0 (bits * n) (8 * c.args.width) c.args.j (bits_of bits q) (matrix c.args.width c.args.m.now) (matrix c.args.width c.add_column.new.m) =
-    rw (eb, en) at c.add_column.ensures in
+    rw (c.BITS.ensures, en) at c.add_column.ensures in
     column_same 0 (bits * n) (8 * c.args.width) c.args.j (bits_of bits q) (column_bits f pl n gs c.args.x) (matrix c.args.width c.args.m.now)
     (matrix c.args.width c.add_column.new.m)
     (λ i l m. column_bits_lem f pl n gs q c.args.x col c.requires.field.1.0 (i - 0) (omega arith)) added

@@ -19,9 +19,9 @@ loop-j-preserved g c =
     let gs = c.args.g.now in
     let x = get_or c.args.support.now (get_or c.args.order.now c.loop-j.j 0) 0 in
     let en : length c.loop-j.column_of ≡ n = omega arith in
-    let added : ColumnAdded 0 (g.F.Field.bits * n) (8 * c.args.width) c.loop-j.j (column_bits f pl n gs x) (matrix c.args.width c.loop-j.m) (matrix c.args.width c.add_code_column.new.m) =
+    let added : ColumnAdded 0 (g.F.Field.BITS * n) (8 * c.args.width) c.loop-j.j (column_bits f pl n gs x) (matrix c.args.width c.loop-j.m) (matrix c.args.width c.add_code_column.new.m) =
     rw en at c.add_code_column.ensures in
-    more_written (g.F.Field.bits * n) (8 * c.args.width) c.loop-j.j (mixed_matrix f pl n gs c.args.support.now c.args.order.now)
+    more_written (g.F.Field.BITS * n) (8 * c.args.width) c.loop-j.j (mixed_matrix f pl n gs c.args.support.now c.args.order.now)
     (matrix c.args.width c.loop-j.m) (matrix c.args.width c.add_code_column.new.m) (column_bits f pl n gs x) (λ i l. refl) added c.loop-j.invariant
 
 pub returns : goal.returns

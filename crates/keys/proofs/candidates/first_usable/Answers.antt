@@ -28,7 +28,7 @@ seeds-preserved g c =
     ap₂ HP ec eo in (
       c.seeds.invariant.0,
       below_more _ _ c.seeds.invariant.1
-          (front_dependent w (g.F.Field.bits * length c.seeds.column) xs _ _ (rw ec c.requires.field.1.1) is c.write_mixed.ensures
+          (front_dependent w (g.F.Field.BITS * length c.seeds.column) xs _ _ (rw ec c.requires.field.1.1) is c.write_mixed.ensures
           (done_stuck (8 * w) (8 * w) c.loop-c.c (matrix w xs) (matrix w c.loop-c.square) (omega arith) (omega arith) c.loop-c.invariant c.if-not-settle.ensures.1)),
     )
 
@@ -50,7 +50,7 @@ returns-after-loop-c g c =
     record {
       is =
           sym (first_is _ _ c.seeds.i (omega arith) c.seeds.invariant.1
-          (λ l. front_independent w (g.F.Field.bits * length c.seeds.column) xs _ _ (rw ec c.requires.field.1.1) is c.write_mixed.ensures
+          (λ l. front_independent w (g.F.Field.BITS * length c.seeds.column) xs _ _ (rw ec c.requires.field.1.1) is c.write_mixed.ensures
           c.loop-c.c (matrix w c.loop-c.square) (omega arith) c.loop-c.invariant));
       within = omega arith;
     }

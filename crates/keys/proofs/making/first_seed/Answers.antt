@@ -12,7 +12,7 @@ first_usable-requires g c =
       code = (omega arith, (omega (arith, h.corrects), λ k l. rw es (c.write_code.ensures.off k (omega arith))));
       field = (
         omega (arith, h.narrow, c.requires.sizes.1),
-        (omega (arith, h.positive, c.requires.sizes.1), bits_rows s h g.F.Field.bits (length c.args.column.now) c.requires.sizes.1 (omega arith)),
+        (omega (arith, h.positive, c.requires.sizes.1), bits_rows s h g.F.Field.BITS (length c.args.column.now) c.requires.sizes.1 (omega arith)),
       );
       rows = (omega (arith, square_fits s h), omega (arith, h.body, h.columns, h.small));
       order = (omega arith, (omega (arith, h.body, h.columns), omega (arith, h.small)));

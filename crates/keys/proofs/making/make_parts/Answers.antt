@@ -52,7 +52,7 @@ returns g c =
     let is = c.first_seed-taken.ensures in
     let taken = c.first_seed-taken.result in
     let lt : taken < count_of seeds = omega arith in
-    let es : c.support_of-support.result.now ≡ support_of_seed g.F.Field.bits s code = c.support_of-support.ensures ∙ is.support in
+    let es : c.support_of-support.result.now ≡ support_of_seed g.F.Field.BITS s code = c.support_of-support.ensures ∙ is.support in
     let mixing = seed_of seeds (taken_of f pl s code seeds) in
     let HP : Matrix = mixed_of f pl s code mixing in
     let public : c.write_taken.new.public_key ≡ public_key_of s (reduced_of s.rows HP) =
@@ -65,7 +65,7 @@ returns g c =
     record {
       answer = one_usable f pl s code seeds taken is.taken lt;
       gives =
-          pair g.met.F.Field.laws pl g.met.F.Field.origin s code (code_fits g.F.Field.bits s h (sym c.requires.sizes.1)) h mixing decoy
+          pair g.met.F.Field.laws pl g.met.F.Field.origin s code (code_fits g.F.Field.BITS s h (sym c.requires.sizes.1)) h mixing decoy
           (seed_length seeds (taken_of f pl s code seeds) (omega (arith, is.taken))) c.requires.seeds.1
           c.write_taken.new.public_key c.write_taken.new.secret_key public secret form;
     }

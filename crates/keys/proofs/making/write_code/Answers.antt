@@ -9,7 +9,7 @@ pub goppa_polynomial-requires : goal.goppa_polynomial-requires
 unfolding zeros_of
 goppa_polynomial-requires g c =
     let s = c.args.sizes.now in
-    let m = g.F.Field.bits in
+    let m = g.F.Field.BITS in
     let le = code_fits m s c.requires.sizes.0 (sym c.requires.sizes.1) in
     let ez : c.zeros_of.result.now ≡ zeros_of m s c.args.seed.now = c.zeros_of.ensures ∙ ap (zeros s.n s.t) c.code_of.ensures.after in
     omega (arith, ap length ez, zeros_length m s c.args.seed.now le)
@@ -18,7 +18,7 @@ pub returns : goal.returns
 unfolding support_of_seed zeros_of
 returns g c =
     let s = c.args.sizes.now in
-    let m = g.F.Field.bits in
+    let m = g.F.Field.BITS in
     let f = g.F.Field.ops in
     let pl = g.F.Field.places in
     let seed = c.args.seed.now in

@@ -14,7 +14,7 @@ loop-i-preserved g c =
     let f = g.F.Field in (
       added_more g.met.F.Field.laws f.places g.met.F.Field.origin c.args.into.now c.loop-i.into c.args.p.now c.loop-i.i c.place.result
           (omega arith) (cc) c.loop-i.invariant.0,
-      λ h. placed_set f.bits c.loop-i.into c.loop-i.i c.place.result (omega arith) (c.loop-i.invariant.1 h) (number_below f.places c.place.result _ c.place.ensures),
+      λ h. placed_set f.BITS c.loop-i.into c.loop-i.i c.place.result (omega arith) (c.loop-i.invariant.1 h) (number_below f.places c.place.result _ c.place.ensures),
     )
 
 pub returns : goal.returns

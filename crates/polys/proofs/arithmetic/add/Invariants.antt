@@ -6,4 +6,4 @@ abbrev pub invariant-loop-i : goal.invariant-loop-i
 invariant-loop-i g l =
     (coefs g.F.Field.places l.into
     ≡ (poly g.F.Field.ops).add (coefs g.F.Field.places l.initial.into) (coefs g.F.Field.places (take l.i l.p)))
-    × (Placed g.F.Field.bits l.initial.into → Placed g.F.Field.bits l.into)
+    × (Placed g.F.Field.BITS l.initial.into → Placed g.F.Field.BITS l.into)

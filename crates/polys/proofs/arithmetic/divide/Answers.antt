@@ -1,4 +1,4 @@
-use Rattle.std.proofs.Common.{◌≡◌, ◌+◌, ◌-◌, ◌≢◌, [], ◌∷◌, length, get_or, sym, refl, ap, ◌∙◌, subst, arith, get_or-set_other}
+use Rattle.std.proofs.Common.{rules, replicate, ◌≡◌, ◌+◌, ◌-◌, ◌≢◌, [], ◌∷◌, length, get_or, sym, refl, ap, ◌∙◌, subst, arith, get_or-set_other}
 use Rattle.algebra.specs.Series.{Series, Below}
 use Rattle.algebra.proofs.Solve.{v, o, ◌⊕◌, ◌⊗◌, solve}
 use Rattle.polys.specs.Coefs.{poly, coefs, mono}
@@ -13,9 +13,10 @@ loop-n-init g c =
     let k = g.met.F.Field.laws in
     let pl = g.F.Field.places in
     let z = g.met.F.Field.origin in
+    let zeros : c.fill.new.self ≡ replicate (length c.args.quot.now) 0 = search rules in
     let e₁ = coefs_zeros k pl z (length c.args.quot.now) in
     let e₂ = solve (poly_laws k) (coefs pl c.args.rem.now ∷ coefs pl c.args.d.now ∷ []) (v 0) ((o ⊗ v 1) ⊕ v 0) refl in
-    (cc, below_list k pl z c.args.rem.now, λ j h. ap (λ l. get_or l j 0) c.clear.ensures ∙ get_d_zeros (length c.args.quot.now) j, placed_zeros g.F.Field.bits (length c.args.quot.now) _ c.clear.ensures, λ h. h)
+    (cc, below_list k pl z c.args.rem.now, λ j h. ap (λ l. get_or l j 0) zeros ∙ get_d_zeros (length c.args.quot.now) j, placed_zeros g.F.Field.BITS (length c.args.quot.now) _ zeros, λ h. h)
 
 pub loop-n-preserved : goal.loop-n-preserved
 loop-n-preserved g c =
@@ -23,7 +24,7 @@ loop-n-preserved g c =
     let f = g.F.Field.ops in
     let pl = g.F.Field.places in
     let z = g.met.F.Field.origin in
-    let K = c.in-Some.k in
+    let K = c.in_ok-k.k in
     let n = c.loop-n.n - 1 in
     let got = c.leading_inverse-e.ensures.lead in
     let inv = c.loop-n.invariant in
@@ -40,7 +41,7 @@ loop-n-preserved g c =
       divide_more k pl z (coefs pl c.args.rem.now) (coefs pl c.loop-n.quot) R D M _ _ inv.0 wrote added,
       subst (λ (p : Series g.row.F.Denot). Below f n p) (sym added) less,
       λ j h. let ne : j ≢ n - K = omega arith in get_or-set_other c.loop-n.quot (n - K) j c.place.result 0 ne ∙ inv.2 j (omega arith),
-      placed_set g.F.Field.bits c.loop-n.quot (n - K) c.place.result (omega arith) inv.3 (number_below pl c.place.result c.product-c.result c.place.ensures),
+      placed_set g.F.Field.BITS c.loop-n.quot (n - K) c.place.result (omega arith) inv.3 (number_below pl c.place.result c.product-c.result c.place.ensures),
       λ h. c.add_scaled.ensures.placed (inv.4 h),
     )
 
@@ -48,7 +49,7 @@ pub returns : goal.returns
 returns g c =
     let inv = c.loop-n.invariant in (
       record {
-        degree = lead_degree g.met.F.Field.laws g.F.Field.places g.met.F.Field.origin c.in-Some.k c.leading_inverse-e.result (coefs g.F.Field.places c.args.d.now) c.leading_inverse-e.ensures.lead;
+        degree = lead_degree g.met.F.Field.laws g.F.Field.places g.met.F.Field.origin c.in_ok-k.k c.leading_inverse-e.result (coefs g.F.Field.places c.args.d.now) c.leading_inverse-e.ensures.lead;
         whole = inv.0;
         rest = λ j h. inv.1 j (omega arith);
       },

@@ -1,4 +1,4 @@
-use Rattle.std.proofs.Common.{◌+◌, ◌-◌, length, get_or, ap, ◌∙◌, subst, arith}
+use Rattle.std.proofs.Common.{rules, ◌≡◌, replicate, ◌+◌, ◌-◌, length, get_or, ap, ◌∙◌, subst, arith}
 use Rattle.algebra.specs.Series.{Series}
 use Rattle.polys.specs.Coefs.{coefs}
 use Rattle.polys.specs.Euclid.{Reduced}
@@ -13,11 +13,13 @@ loop-k-init g c =
     let f = g.F.Field.ops in
     let pl = g.F.Field.places in
     let z = g.met.F.Field.origin in
-    let zero_a = ap (coefs pl) c.clear.ensures ∙ coefs_zeros k pl z (length c.args.a.now) in
-    let zero-b = ap (coefs pl) c.clear-2.ensures ∙ coefs_zeros k pl z (length c.args.b.now) in
-    let none = ap (λ l. get_or l 0 0) c.clear-2.ensures ∙ get_d_zeros (length c.args.b.now) 0 in
-    let wrote = write_new k pl z c.clear-2.new.p 0 c.place.result f.one (omega arith) none (cc) in
-    (omega arith, euclid_none k c.args.top (coefs pl c.args.s.now) (coefs pl c.args.r.now) _ _ c.requires.degree c.requires.under zero_a (one_write k (coefs pl c.clear-2.new.p) _ zero-b wrote))
+    let zeros_a : c.fill.new.self ≡ replicate (length c.args.a.now) 0 = search rules in
+    let zeros_b : c.fill-2.new.self ≡ replicate (length c.args.b.now) 0 = search rules in
+    let zero_a = ap (coefs pl) zeros_a ∙ coefs_zeros k pl z (length c.args.a.now) in
+    let zero-b = ap (coefs pl) zeros_b ∙ coefs_zeros k pl z (length c.args.b.now) in
+    let none = ap (λ l. get_or l 0 0) zeros_b ∙ get_d_zeros (length c.args.b.now) 0 in
+    let wrote = write_new k pl z c.fill-2.new.self 0 c.place.result f.one (omega arith) none (cc) in
+    (omega arith, euclid_none k c.args.top (coefs pl c.args.s.now) (coefs pl c.args.r.now) _ _ c.requires.degree c.requires.under zero_a (one_write k (coefs pl c.fill-2.new.self) _ zero-b wrote))
 
 pub loop-k-preserved : goal.loop-k-preserved
 loop-k-preserved g c =

@@ -1,18 +1,15 @@
-use Rattle.std.proofs.Common.{◌≡◌, drop, sym, ap, ◌∙◌, arith}
-use Rattle.polys.specs.Values.{value}
-use Rattle.polys.proofs.Points.{value_none, value_more}
+use Rattle.std.proofs.Common.{rules, reverse, ap, ◌∙◌}
+use Rattle.std.specs.List.{fold}
+use borrow.Author.Tests.{tests}
+use Rattle.std.proofs.lemmas.Iterator.Adapters.{YieldsList-from_rev_slice}
+use Rattle.std.proofs.lemmas.Iterator.Consumers.{fold_from_yields_List}
+use Rattle.polys.proofs.Points.{horner_value}
 use Rattle.polys.proofs.values.value_at.Goals as goal
-
-pub loop-i-init : goal.loop-i-init
-loop-i-init g c = c.zero-sum.ensures ∙ sym (value_none g.F.Field.ops g.F.Field.places c.args.p.now c.args.x)
-
-pub loop-i-preserved : goal.loop-i-preserved
-loop-i-preserved g c =
-    let e = value_more g.F.Field.ops g.F.Field.places c.args.p.now c.args.x c.loop-i.i (omega arith) (omega arith) in
-    let inv = c.loop-i.invariant in
-    cc
 
 pub returns : goal.returns
 returns g c =
-    let z : c.loop-i.i ≡ 0 = omega arith in
-    c.loop-i.invariant ∙ ap (λ j. value g.F.Field.ops g.F.Field.places (drop j c.args.p.now) c.args.x) z
+    let f = g.F.Field.ops in
+    let pl = g.F.Field.places in
+    fold_from_yields_List _ (λ v a. f.add (pl.at a) (f.mul c.args.x v)) _ _ c.fold.ensures.ran (YieldsList-from_rev_slice c.args.p.now (cc)) (λ v a r q k. search (rules, tests))
+    ∙ ap (λ z. fold (λ v a. f.add (pl.at a) (f.mul c.args.x v)) z (reverse c.args.p.now)) c.zero.ensures
+    ∙ horner_value f pl c.args.x c.args.p.now

@@ -1,39 +1,40 @@
-use Rattle.std.proofs.Common.{◌≡◌, ℕ, ◌-◌, ◌<◌, length, get_or, drop, sym, ap, ◌∙◌, arith}
-use Rattle.polys.specs.Values.{value}
+use Rattle.std.proofs.Common.{rules, ◌≡◌, ℕ, ◌<◌, [], ◌∷◌, ◌++◌, length, get_or, map, replicate, sym, ap, ap₂, ◌∙◌}
+use Rattle.std.proofs.lemmas.List.{map_push}
+use Rattle.std.proofs.lemmas.List.Sums.{fold_push}
+use Rattle.std.proofs.lemmas.Iterator.Adapters.{YieldsList-from_rev_slice}
+use Rattle.std.proofs.lemmas.Iterator.Consumers.{YieldsList-end}
 use Rattle.polys.proofs.Lists.{get_d_zeros}
-use Rattle.polys.proofs.Points.{value_none, value_more, num_zero}
+use Rattle.polys.proofs.Points.{horner, horner_value, num_zero}
 use Rattle.polys.proofs.values.values_at.Goals as goal
 
-pub loop-i-init : goal.loop-i-init
-loop-i-init g c =
-    let f = g.F.Field.ops in
-    let pl = g.F.Field.places in
-    let none : (j : ℕ) → get_or c.clear.new.p j 0 ≡ 0 = λ j. ap (λ l. get_or l j 0) c.clear.ensures ∙ get_d_zeros (length c.args.values.now) j in (
-      λ j h. none j ∙ sym (num_zero f pl g.met.F.Field.origin)
-          ∙ ap pl.num (sym (value_none f pl c.args.p.now (pl.at (get_or c.args.points.now j 0)))),
-      λ j h. none j,
-    )
+pub loop-c-init : goal.loop-c-init
+loop-c-init g c =
+    let zeros : c.fill.new.self ≡ replicate (length c.args.values.now) 0 = search rules in
+    let none : (j : ℕ) → get_or c.fill.new.self j 0 ≡ 0 = λ j. ap (λ l. get_or l j 0) zeros ∙ get_d_zeros (length c.args.values.now) j in
+    (λ j h. none j ∙ sym (num_zero g.F.Field.ops g.F.Field.places g.met.F.Field.origin), λ j h. none j)
 
-pub loop-i-preserved : goal.loop-i-preserved
-loop-i-preserved g c = (more, λ j h. c.horner_steps.ensures.rest j h ∙ c.loop-i.invariant.1 j h) where
-  more : (j : ℕ) → j < length c.args.points.now
-      → get_or c.horner_steps.new.values j 0
-      ≡ g.F.Field.places.num (value g.F.Field.ops g.F.Field.places (drop (c.loop-i.i - 1) c.args.p.now) (g.F.Field.places.at (get_or c.args.points.now j 0)))
+pub loop-c-preserved : goal.loop-c-preserved
+loop-c-preserved g c = (more, λ j h. c.horner_steps.ensures.rest j h ∙ c.loop-c.invariant.1 j h) where
+  more : (j : ℕ) → j < length c.args.points.now → get_or c.horner_steps.new.values j 0 ≡ g.F.Field.places.num (horner g.F.Field.ops g.F.Field.places (g.F.Field.places.at (get_or c.args.points.now j 0)) (map (λ y. y.now) (c.loop-c.yielded ++ c.in-Some.field-0 ∷ [])))
   more j h =
       let f = g.F.Field.ops in
       let pl = g.F.Field.places in
       let x = pl.at (get_or c.args.points.now j 0) in
-      let old = c.loop-i.invariant.0 j h in
-      let new = c.horner_steps.ensures.step j h in
-      let back = pl.at_num (value f pl (drop c.loop-i.i c.args.p.now) x) in
-      let e = value_more f pl c.args.p.now x c.loop-i.i (omega arith) (omega arith) in
-      cc
+      let so_far = map (λ y. y.now) c.loop-c.yielded in
+      c.horner_steps.ensures.step j h
+      ∙ ap pl.num (
+      ap₂ (λ a v. f.add a (f.mul x v)) c.read.ensures (ap pl.at (c.loop-c.invariant.0 j h) ∙ pl.at_num (horner f pl x so_far))
+      ∙ sym (ap (horner f pl x) (map_push (λ y. y.now) c.loop-c.yielded c.in-Some.field-0) ∙ fold_push (λ v a. f.add (pl.at a) (f.mul x v)) f.zero so_far c.in-Some.field-0.now)
+      )
 
 pub returns : goal.returns
 returns g c =
-    let z : c.loop-i.i ≡ 0 = omega arith in
+    let f = g.F.Field.ops in
+    let pl = g.F.Field.places in
+    let all = YieldsList-end (YieldsList-from_rev_slice c.args.p.now (cc)) c.loop-c.yielded _ c.loop-c.yielded_by _ _ c.in-None.is c.next.ensures.steps in
     record {
-      each = λ j h. c.loop-i.invariant.0 j h
-          ∙ ap (λ n. g.F.Field.places.num (value g.F.Field.ops g.F.Field.places (drop n c.args.p.now) (g.F.Field.places.at (get_or c.args.points.now j 0)))) z;
-      rest = c.loop-i.invariant.1;
+      each = λ j h. c.loop-c.invariant.0 j h
+          ∙ ap (λ xs. pl.num (horner f pl (pl.at (get_or c.args.points.now j 0)) xs)) all.0
+          ∙ ap pl.num (horner_value f pl (pl.at (get_or c.args.points.now j 0)) c.args.p.now);
+      rest = c.loop-c.invariant.1;
     }
