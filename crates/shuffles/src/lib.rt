@@ -2,8 +2,9 @@
 // PermInv, and the error vector of a seed.
 #![tactic(auto)]
 
-ghost use Rattle.std.specs.Prelude.{◌≡◌, ℕ, ◌*◌, ◌^◌, ◌<◌, ◌≤◌, Bool, length, take, count_by};
+ghost use Rattle.std.specs.Prelude.{◌≡◌, ℕ, ◌+◌, ◌*◌, ◌^◌, ◌<◌, ◌≤◌, Bool, map, length, take, count_by};
 ghost use Rattle.std.specs.List.{range_with_len};
+ghost use Rattle.std.proofs.Common.{rules};
 ghost use Rattle.bits.specs.Vectors.{weight};
 ghost use Rattle.bits.specs.Packed.{vector, packed};
 ghost use Rattle.shuffles.specs.Shuffle.{shuffled};
@@ -14,27 +15,47 @@ use levels::guards::{Place, Position};
 // A seed: what a shuffle takes its words from.
 pub type Seed = [u8; 32];
 
-// An item that can be shuffled: it carries a number.
-pub trait Numbered {
+// An item that can be shuffled: it carries a number, below a limit.
+pub trait Numbered: Drop {
     ghost number: { Self → ℕ };
+    ghost limit: { ℕ };
 
     fn number(&self) -> u32
         ensures { result ≡ number self.now };
+
+    // The item with a number.
+    fn numbered(n: usize) -> Self
+        requires { n < limit }
+        ensures { number result ≡ n };
+
+    ghost limited: { limit ≤ 2 ^ 32 };
 }
 
 impl Numbered for Place {
     ghost number = { λ p. p };
+    ghost limit = { 2 ^ 16 };
+    ghost limited = { Prim.search rules };
 
     fn number(&self) -> u32 {
         u32::from(*self)
+    }
+
+    fn numbered(n: usize) -> Self {
+        n as u16
     }
 }
 
 impl Numbered for Position {
     ghost number = { λ p. p };
+    ghost limit = { 2 ^ 32 };
+    ghost limited = { Prim.search rules };
 
     fn number(&self) -> u32 {
         *self
+    }
+
+    fn numbered(n: usize) -> Self {
+        n as u32
     }
 }
 
@@ -51,13 +72,13 @@ pub fn shuffle<T: Numbered>(items: &mut [T], seed: &Seed)
     }
 }
 
-// Writes each position to its own place.
-fn count_up(positions: &mut [Position])
-    requires { length positions.old < 2 ^ 32 }
-    ensures { positions.new ≡ range_with_len 0 (length positions.old) }
+// Writes the items with the numbers from one on.
+pub fn count_from<T: Numbered>(first: usize, items: &mut [T])
+    requires { first + length items.old ≤ T.limit }
+    ensures { map T.number items.new ≡ range_with_len first (length items.old) }
 {
-    for (i, p) in positions.iter_mut().enumerate() {
-        *p = i as u32;
+    for (i, x) in items.iter_mut().enumerate() {
+        *x = T::numbered(first + i);
     }
 }
 
@@ -67,11 +88,12 @@ pub fn order_by(positions: &mut [Position], seed: &Seed)
     ensures after { positions.new ≡ order (length positions.old) seed.now }
     ensures permutes { Permutation (length positions.old) positions.new }
 {
-    count_up(positions);
+    count_from(0, positions);
     shuffle(positions, seed);
 }
 
-// Entry j of the vector goes to the place that stands at j in the order.
+// Entry j of the vector goes to the place that stands at j in the order. `permute_back` stands by itself:
+// one function for both would need a closure that is longer than the line in which they differ.
 fn permute(order: &[Position], v: &[u8], out: &mut [u8])
     requires long { (length order.now ≡ 8 * length v.now) × (length out.old ≡ length v.now) }
     requires permutes { Permutation (length order.now) order.now }
