@@ -1,5 +1,7 @@
 -- What the steps of a make say of the seeds.
-use Rattle.std.proofs.Common.{◌≡◌, ℕ, ◌+◌, ◌-◌, ◌*◌, ◌<◌, ◌≤◌, true, false, eqb, List, [], ◌∷◌, length, take, drop, Ok, Err, sym, ◌∙◌, mul-le-mul_left, arith, length-drop, length-take}
+use Rattle.std.specs.Simd.{first_chunks}
+use Rattle.std.proofs.lemmas.List.{drop-drop}
+use Rattle.std.proofs.Common.{◌≡◌, ℕ, zero, suc, refl, ap, get_or, ◌*◌, ◌<◌, ◌≤◌, true, false, eqb, List, [], ◌∷◌, length, take, drop, Ok, Err, sym, ◌∙◌, mul-le-mul_left, arith, length-drop, length-take}
 use Rattle.std.proofs.lemmas.Bool.{eq-eqb, ne_eqb}
 use Rattle.levels.specs.declared.Sizes.{Sizes}
 use Rattle.levels.specs.declared.faults.Fault.TheVariants.{NoUsableSeed}
@@ -15,9 +17,11 @@ use Rattle.keys.specs.Secret.{written, mixed_by}
 use Rattle.keys.specs.Seeds.{support_of_seed, goppa_of, mixed_of, usable, seed_of, count_of, taken_of, secret_key_of}
 use Rattle.keys.specs.Calls.{seed_row}
 
--- a seed, as a part of the list
-pub seed_part : (seeds : List ℕ) (i : ℕ) → take (32 * i + 32 - 32 * i) (drop (32 * i) seeds) ≡ seed_of seeds i
-seed_part seeds i = let e : 32 * i + 32 - 32 * i ≡ 32 = omega arith in rw e
+-- a seed, as one of the chunks of the list
+pub chunk_at : (k i : ℕ) (seeds : List ℕ) → i < k → get_or (first_chunks 32 k seeds) i [] ≡ seed_of seeds i
+chunk_at zero i seeds l = absurd (omega arith)
+chunk_at (suc k) zero seeds l = refl
+chunk_at (suc k) (suc i) seeds l = chunk_at k i (drop 32 seeds) (omega arith) ∙ ap (take 32) (drop-drop (32 * i) 32 seeds ∙ ap (λ (j : ℕ). drop j seeds) (omega arith))
 
 pub seed_length : (seeds : List ℕ) (i : ℕ) → i < count_of seeds → length (seed_of seeds i) ≡ 32
 seed_length seeds i l = simp (length-take, length-drop) (omega arith)

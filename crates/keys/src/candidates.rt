@@ -11,15 +11,14 @@ use fields::field::{BinaryField, Field};
 use goppa::mixed::write_mixed;
 use levels::guards::{Place, Position};
 use matrices::settle;
-use shuffles::order_by;
+use shuffles::{Seed, order_by};
 
 // Seed i of a list.
-pub fn seed_at(seeds: &[u8], i: usize) -> &[u8]
+pub fn seed_at(seeds: &[u8], i: usize) -> &Seed
     requires { i < count_of seeds.now }
-    ensures is { result.now ≡ seed_of seeds.now i }
-    ensures long { length result.now ≡ 32 }
+    ensures { result.now ≡ seed_of seeds.now i }
 {
-    &seeds[32 * i..32 * i + 32]
+    &seeds.as_chunks::<32>().0[i]
 }
 
 // The number of the first usable seed, or how many seeds there are. A seed is usable if the square

@@ -22,20 +22,20 @@ use levels::checks::WorkLengths;
 use levels::faults::Fault;
 use levels::guards::{BytesGuard, Place, PlacesGuard, Position, PositionsGuard};
 use making::make_with;
+use shuffles::Seed;
 
 // Makes a pair over the field of a level, once the tests have passed.
 fn make_at(
     level: Level,
-    code_seed: &[u8],
+    code_seed: &Seed,
     mixing_seeds: &[u8],
-    decoy_seed: &[u8],
+    decoy_seed: &Seed,
     public_key: &mut [u8],
     secret_key: &mut [u8],
     bytes: &mut [u8],
     places: &mut [Place],
     positions: &mut [Position],
 ) -> Result<(), Fault>
-    requires seeds { (length code_seed.now ≡ 32) × (length decoy_seed.now ≡ 32) }
     requires work { ((sizes_of level).work_bytes ≤ length bytes.old) × (((sizes_of level).work_places ≤ length places.old) × ((sizes_of level).work_places ≤ length positions.old)) }
     requires keys { (length public_key.old ≡ (sizes_of level).public_key) × (length secret_key.old ≡ (sizes_of level).secret_key) }
     ensures answer { result ≡ tried_at (Ok level) code_seed.now mixing_seeds.now }
@@ -96,6 +96,12 @@ fn make_within(
         positions: positions.len(),
     };
     let level = check(level, buffers, work)?;
+    let Some(code_seed) = code_seed.as_array() else {
+        unreachable!()
+    };
+    let Some(decoy_seed) = decoy_seed.as_array() else {
+        unreachable!()
+    };
     make_at(
         level,
         code_seed,

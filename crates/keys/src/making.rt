@@ -20,13 +20,13 @@ use goppa::zeros::goppa_polynomial;
 use levels::Sizes;
 use levels::faults::Fault;
 use levels::guards::{Place, Position};
-use shuffles::order_by;
+use shuffles::{Seed, order_by};
 
 // Writes all elements in the order of a code seed, and the polynomial g. No element of the support is a
 // zero of it.
-fn write_code<F: BinaryField>(sizes: &Sizes, seed: &[u8], code: &mut [Place], g: &mut [Place])
+fn write_code<F: BinaryField>(sizes: &Sizes, seed: &Seed, code: &mut [Place], g: &mut [Place])
     requires sizes { (Lawful sizes.now) × (F.Field.bits ≡ sizes.now.m) }
-    requires long { (length seed.now ≡ 32) × ((length code.old ≡ 2 ^ F.Field.bits) × (length g.old ≡ sizes.now.t + 1)) }
+    requires long { (length code.old ≡ 2 ^ F.Field.bits) × (length g.old ≡ sizes.now.t + 1) }
     ensures support { support sizes.now.n code.new ≡ support_of_seed F.Field.bits sizes.now seed.now }
     ensures g { g.new ≡ goppa_of F.Field.ops F.Field.places sizes.now seed.now }
     ensures long { length (support sizes.now.n code.new) ≡ sizes.now.n }
@@ -40,7 +40,7 @@ fn write_code<F: BinaryField>(sizes: &Sizes, seed: &[u8], code: &mut [Place], g:
 // there are.
 fn first_seed<F: BinaryField>(
     sizes: &Sizes,
-    code_seed: &[u8],
+    code_seed: &Seed,
     mixing_seeds: &[u8],
     square: &mut [u8],
     code: &mut [Place],
@@ -49,7 +49,6 @@ fn first_seed<F: BinaryField>(
     positions: &mut [Position],
 ) -> usize
     requires sizes { (Lawful sizes.now) × (F.Field.bits ≡ sizes.now.m) }
-    requires seed { length code_seed.now ≡ 32 }
     requires code { (length code.old ≡ 2 ^ F.Field.bits) × ((length g.old ≡ sizes.now.t + 1) × (length column.old ≡ sizes.now.t)) }
     requires work { (length square.old ≡ sizes.now.rows * sizes.now.vector) × (length positions.old ≡ sizes.now.n) }
     ensures taken { result ≡ taken_of F.Field.ops F.Field.places sizes.now code_seed.now mixing_seeds.now }
@@ -77,14 +76,13 @@ fn write_hp<F: BinaryField>(
     sizes: &Sizes,
     g: &[Place],
     support: &[Place],
-    mixing: &[u8],
+    mixing: &Seed,
     column: &mut [Place],
     hp: &mut [u8],
     positions: &mut [Position],
 )
     requires sizes { (Lawful sizes.now) × (F.Field.bits ≡ sizes.now.m) }
     requires code { (length g.now ≡ sizes.now.t + 1) × ((length support.now ≡ sizes.now.n) × (((k : ℕ) → k < length support.now → value F.Field.ops F.Field.places g.now (F.Field.places.at (slice_index support.now k)) ≢ F.Field.ops.zero))) }
-    requires seed { length mixing.now ≡ 32 }
     requires work { (length column.old ≡ sizes.now.t) × ((sizes.now.rows * sizes.now.vector ≤ length hp.old) × (length positions.old ≡ sizes.now.n)) }
     ensures { (i j : ℕ) → i < sizes.now.rows → j < sizes.now.n → matrix sizes.now.vector hp.new i j ≡ mixed_by F.Field.ops F.Field.places sizes.now support.now g.now mixing.now i j }
 {
@@ -97,8 +95,8 @@ fn write_pair<F: BinaryField>(
     sizes: &Sizes,
     g: &[Place],
     support: &[Place],
-    mixing: &[u8],
-    decoy: &[u8],
+    mixing: &Seed,
+    decoy: &Seed,
     column: &mut [Place],
     hp: &mut [u8],
     positions: &mut [Position],
@@ -107,7 +105,6 @@ fn write_pair<F: BinaryField>(
 )
     requires sizes { (Lawful sizes.now) × (F.Field.bits ≡ sizes.now.m) }
     requires code { (length g.now ≡ sizes.now.t + 1) × ((length support.now ≡ sizes.now.n) × (((k : ℕ) → k < length support.now → value F.Field.ops F.Field.places g.now (F.Field.places.at (slice_index support.now k)) ≢ F.Field.ops.zero))) }
-    requires seeds { (length mixing.now ≡ 32) × (length decoy.now ≡ 32) }
     requires work { (length column.old ≡ sizes.now.t) × ((sizes.now.rows * sizes.now.vector ≤ length hp.old) × (length positions.old ≡ sizes.now.n)) }
     requires keys { (length public_key.old ≡ sizes.now.public_key) × (length secret_key.old ≡ sizes.now.secret_key) }
     requires usable { independent sizes.now.rows (mixed_by F.Field.ops F.Field.places sizes.now support.now g.now mixing.now) ≡ true }
@@ -125,7 +122,7 @@ fn write_taken<F: BinaryField>(
     support: &[Place],
     seeds: &[u8],
     taken: usize,
-    decoy: &[u8],
+    decoy: &Seed,
     column: &mut [Place],
     hp: &mut [u8],
     positions: &mut [Position],
@@ -134,7 +131,7 @@ fn write_taken<F: BinaryField>(
 )
     requires sizes { (Lawful sizes.now) × (F.Field.bits ≡ sizes.now.m) }
     requires code { (length g.now ≡ sizes.now.t + 1) × ((length support.now ≡ sizes.now.n) × (((k : ℕ) → k < length support.now → value F.Field.ops F.Field.places g.now (F.Field.places.at (slice_index support.now k)) ≢ F.Field.ops.zero))) }
-    requires seeds { (taken < count_of seeds.now) × (length decoy.now ≡ 32) }
+    requires taken { taken < count_of seeds.now }
     requires work { (length column.old ≡ sizes.now.t) × ((sizes.now.rows * sizes.now.vector ≤ length hp.old) × (length positions.old ≡ sizes.now.n)) }
     requires keys { (length public_key.old ≡ sizes.now.public_key) × (length secret_key.old ≡ sizes.now.secret_key) }
     requires usable { independent sizes.now.rows (mixed_by F.Field.ops F.Field.places sizes.now support.now g.now (seed_of seeds.now taken)) ≡ true }
@@ -150,9 +147,9 @@ fn write_taken<F: BinaryField>(
 // Makes a pair in parts of the work memory with any content.
 fn make_parts<F: BinaryField>(
     sizes: &Sizes,
-    code_seed: &[u8],
+    code_seed: &Seed,
     mixing_seeds: &[u8],
-    decoy_seed: &[u8],
+    decoy_seed: &Seed,
     public_key: &mut [u8],
     secret_key: &mut [u8],
     hp: &mut [u8],
@@ -162,7 +159,6 @@ fn make_parts<F: BinaryField>(
     positions: &mut [Position],
 ) -> Result<(), Fault>
     requires sizes { (Lawful sizes.now) × (F.Field.bits ≡ sizes.now.m) }
-    requires seeds { (length code_seed.now ≡ 32) × (length decoy_seed.now ≡ 32) }
     requires code { (length code.old ≡ 2 ^ F.Field.bits) × ((length g.old ≡ sizes.now.t + 1) × (length column.old ≡ sizes.now.t)) }
     requires work { (length hp.old ≡ sizes.now.rows * sizes.now.vector) × (length positions.old ≡ sizes.now.n) }
     requires keys { (length public_key.old ≡ sizes.now.public_key) × (length secret_key.old ≡ sizes.now.secret_key) }
@@ -202,9 +198,9 @@ fn make_parts<F: BinaryField>(
 // Makes a pair in the work memory, once the tests have passed.
 pub fn make_with<F: BinaryField>(
     sizes: &Sizes,
-    code_seed: &[u8],
+    code_seed: &Seed,
     mixing_seeds: &[u8],
-    decoy_seed: &[u8],
+    decoy_seed: &Seed,
     public_key: &mut [u8],
     secret_key: &mut [u8],
     bytes: &mut [u8],
@@ -212,7 +208,6 @@ pub fn make_with<F: BinaryField>(
     positions: &mut [Position],
 ) -> Result<(), Fault>
     requires sizes { (Lawful sizes.now) × (F.Field.bits ≡ sizes.now.m) }
-    requires seeds { (length code_seed.now ≡ 32) × (length decoy_seed.now ≡ 32) }
     requires work { (sizes.now.work_bytes ≤ length bytes.old) × ((sizes.now.work_places ≤ length places.old) × (sizes.now.work_places ≤ length positions.old)) }
     requires keys { (length public_key.old ≡ sizes.now.public_key) × (length secret_key.old ≡ sizes.now.secret_key) }
     ensures answer { result ≡ answer (seed_row F.Field.ops F.Field.places sizes.now code_seed.now mixing_seeds.now ∷ []) }

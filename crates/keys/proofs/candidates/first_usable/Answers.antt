@@ -23,7 +23,7 @@ seeds-preserved g c =
     let ec : length c.seeds.column ≡ length c.args.column.now = omega arith in
     let ep : length c.seeds.positions ≡ length c.args.positions.now = omega arith in
     let eo : c.order_by.new.positions ≡ order (length c.args.positions.now) (seed_of c.args.seeds.now c.seeds.i) =
-    c.order_by.ensures.after ∙ rw (ep, c.seed_at.ensures.is) in
+    c.order_by.ensures.after ∙ rw (ep, c.seed_at.ensures) in
     let is : HP (length c.seeds.column) c.order_by.new.positions ≡ HP (length c.args.column.now) (order (length c.args.positions.now) (seed_of c.args.seeds.now c.seeds.i)) =
     ap₂ HP ec eo in (
       c.seeds.invariant.0,
@@ -44,7 +44,7 @@ returns-after-loop-c g c =
     let ec : length c.seeds.column ≡ length c.args.column.now = omega arith in
     let ep : length c.seeds.positions ≡ length c.args.positions.now = omega arith in
     let eo : c.order_by.new.positions ≡ order (length c.args.positions.now) (seed_of c.args.seeds.now c.seeds.i) =
-    c.order_by.ensures.after ∙ rw (ep, c.seed_at.ensures.is) in
+    c.order_by.ensures.after ∙ rw (ep, c.seed_at.ensures) in
     let is : HP (length c.seeds.column) c.order_by.new.positions ≡ HP (length c.args.column.now) (order (length c.args.positions.now) (seed_of c.args.seeds.now c.seeds.i)) =
     ap₂ HP ec eo in
     record {

@@ -34,7 +34,7 @@ write_taken-requires g c =
     record {
       sizes = c.requires.sizes;
       code = (omega arith, (ln, λ k l. rw es (is.off k (omega arith))));
-      seeds = (omega arith, c.requires.seeds.1);
+      taken = omega arith;
       work = (omega arith, (omega arith, omega arith));
       keys = c.requires.keys;
       usable = ap (independent s.rows) HP ∙ taken_usable f pl s code seeds (omega (arith, is.taken));
@@ -66,6 +66,6 @@ returns g c =
       answer = one_usable f pl s code seeds taken is.taken lt;
       gives =
           pair g.met.F.Field.laws pl g.met.F.Field.origin s code (code_fits g.F.Field.bits s h (sym c.requires.sizes.1)) h mixing decoy
-          (seed_length seeds (taken_of f pl s code seeds) (omega (arith, is.taken))) c.requires.seeds.1
+          (seed_length seeds (taken_of f pl s code seeds) (omega (arith, is.taken))) c.told-decoy_seed
           c.write_taken.new.public_key c.write_taken.new.secret_key public secret form;
     }
