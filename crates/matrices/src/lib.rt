@@ -1,18 +1,22 @@
 // Packed matrices in lent memory, row after row: products with packed vectors, and elimination.
 #![tactic(auto)]
 
-ghost use Rattle.std.specs.Prelude.{◌≡◌, ℕ, ◌+◌, ◌-◌, ◌*◌, ◌/◌, ◌^◌, ◌<◌, ◌≤◌, true, false, length, MatchBool, ◌==◌, ◌≢◌, slice_index};
+ghost use Rattle.std.specs.Prelude.{◌≡◌, ℕ, ◌+◌, ◌-◌, ◌*◌, ◌/◌, ◌^◌, ◌<◌, ◌≤◌, true, false, length, MatchBool, MatchOption, MatchResult, is_ok, ◌==◌, ◌≢◌, slice_index};
 ghost use Rattle.bits.specs.Vectors.{◌⊕◌, dot, times, systematic};
 ghost use Rattle.bits.specs.Packed.{vector, matrix, packed};
 ghost use Rattle.bits.specs.Kernels.{Same, Independent, Dependent, independent, Reduced, Echelon, Ranked};
 ghost use Rattle.bits.specs.Rank.{rank_of};
 ghost use Rattle.bits.specs.Reduced.{reduced_of};
 ghost use Rattle.bits.specs.Elimination.{Added, LowRows, Pivoted, Settled};
-ghost use Rattle.matrices.specs.Rows.{RowWithin, PlaceWithin, Apart, Summed, Copied, ColumnsCopied, SettledOrNone};
+ghost use Rattle.matrices.specs.Rows.{RowWithin, PlaceWithin, PivotAt, Apart, Summed, Copied, ColumnsCopied, SettledOrNone};
 
 pub mod columns;
 
 use std::simd::prelude::*;
+
+// The columns are dependent.
+#[derive(Clone, Copy, Debug, PartialEq, Eq)]
+pub struct DependentColumns;
 
 // The sum of the products of the bits of two vectors.
 fn parity(row: &[u8], v: &[u8]) -> bool
@@ -102,27 +106,19 @@ pub fn add_row(m: &mut [u8], width: usize, from: usize, into: usize)
     add_part(m, into * width, from * width, width);
 }
 
-// The first row from k on that has a one in column c, or `rows`.
-fn pivot(m: &[u8], width: usize, rows: usize, k: usize, c: usize) -> usize
+// The first row from k on that has a one in column c.
+fn pivot(m: &[u8], width: usize, rows: usize, k: usize, c: usize) -> Option<usize>
     requires { PlaceWithin width rows k c m.now }
-    ensures within { (k ≤ result) × (result ≤ rows) }
-    ensures before { (i : ℕ) → k ≤ i → i < result → matrix width m.now i c ≡ false }
-    ensures found { result < rows → matrix width m.now result c ≡ true }
+    ensures { MatchOption result ((i : ℕ) → k ≤ i → i < rows → matrix width m.now i c ≡ false) (λ p. PivotAt width rows k c p m.now) }
 {
-    for i in k..rows {
-        if entry(m, width, i, c) {
-            return i;
-        }
-    }
-    rows
+    (k..rows).find(|&i| entry(m, width, i, c))
 }
 
 // Gets a one into row k of column c, from row p, the first from k on that has one.
 fn set_pivot(m: &mut [u8], width: usize, rows: usize, k: usize, c: usize, p: usize)
-    requires within { (PlaceWithin width rows k c m.old) × ((k ≤ p) × (p < rows)) }
+    requires within { PlaceWithin width rows k c m.old }
     requires low { LowRows rows k c (matrix width m.old) }
-    requires before { (i : ℕ) → k ≤ i → i < p → matrix width m.old i c ≡ false }
-    requires found { matrix width m.old p c ≡ true }
+    requires first { PivotAt width rows k c p m.old }
     ensures { Pivoted rows (8 * width) k c (matrix width m.old) (matrix width m.new) }
 {
     if p != k {
@@ -144,34 +140,30 @@ fn clear_column(m: &mut [u8], width: usize, rows: usize, k: usize, c: usize)
     }
 }
 
-// Makes column c the unit column of row k, and leaves the columns before it; false says that there
-// is no one from row k on.
-pub fn settle(m: &mut [u8], width: usize, rows: usize, k: usize, c: usize) -> bool
+// Makes column c the unit column of row k, and leaves the columns before it. It fails, and changes
+// nothing, if there is no one from row k on.
+pub fn settle(m: &mut [u8], width: usize, rows: usize, k: usize, c: usize) -> Result<(), DependentColumns>
     requires within { PlaceWithin width rows k c m.old }
     requires low { LowRows rows k c (matrix width m.old) }
     ensures { SettledOrNone result width rows k c m.old m.new }
 {
-    let p = pivot(m, width, rows, k, c);
-    if p == rows {
-        return false;
-    }
+    let Some(p) = pivot(m, width, rows, k, c) else {
+        return Err(DependentColumns);
+    };
     set_pivot(m, width, rows, k, c, p);
     clear_column(m, width, rows, k, c);
-    true
+    Ok(())
 }
 
-// The reduced row echelon form [I | M], in place; false says that the first `rows` columns are
-// dependent.
-pub fn reduce(m: &mut [u8], width: usize, rows: usize) -> bool
+// The reduced row echelon form [I | M], in place, unless the first `rows` columns are dependent.
+pub fn reduce(m: &mut [u8], width: usize, rows: usize) -> Result<(), DependentColumns>
     requires { (rows * width ≤ length m.old) × (rows ≤ 8 * width) }
-    ensures { MatchBool result (Reduced rows (8 * width) (matrix width m.old) (matrix width m.new)) (Dependent rows (matrix width m.old)) }
+    ensures { MatchResult result (λ _. Reduced rows (8 * width) (matrix width m.old) (matrix width m.new)) (λ _. Dependent rows (matrix width m.old)) }
 {
     for c in 0..rows {
-        if !settle(m, width, rows, c, c) {
-            return false;
-        }
+        settle(m, width, rows, c, c)?;
     }
-    true
+    Ok(())
 }
 
 // The number of columns that get a pivot: they are no sum of earlier ones.
@@ -181,7 +173,7 @@ fn count_pivots(m: &mut [u8], width: usize, rows: usize) -> usize
 {
     let mut k = 0;
     for c in 0..8 * width {
-        if settle(m, width, rows, k, c) {
+        if settle(m, width, rows, k, c).is_ok() {
             k += 1;
         }
     }
@@ -206,7 +198,7 @@ pub fn usable(m: &mut [u8], front: usize) -> bool
     ensures which { MatchBool result (Independent (8 * front) (matrix front m.old)) (Dependent (8 * front) (matrix front m.old)) }
     ensures decided { result ≡ independent (8 * front) (matrix front m.old) }
 {
-    reduce(m, front, 8 * front)
+    reduce(m, front, 8 * front).is_ok()
 }
 
 // Copies `some` bytes of m from `from` on to those of out from `to` on.
@@ -229,21 +221,19 @@ pub fn copy_columns(m: &[u8], width: usize, rows: usize, skip: usize, out: &mut 
 }
 
 // The matrix M of the reduced row echelon form [I | M] of a matrix of 8 * front rows of
-// front + back bytes, written to `out`. False says that the first columns are dependent, and leaves
-// `out`. What `hp` holds then is of no use.
-pub fn echelon(hp: &mut [u8], front: usize, back: usize, out: &mut [u8]) -> bool
+// front + back bytes, written to `out`. It fails, and leaves `out`, if the first columns are dependent.
+// What `hp` holds then is of no use.
+pub fn echelon(hp: &mut [u8], front: usize, back: usize, out: &mut [u8]) -> Result<(), DependentColumns>
     requires small { (8 * front < 2 ^ 63) × (front + back < 2 ^ 63) }
     requires within { (8 * front * (front + back) ≤ length hp.old) × (8 * front * back ≤ length out.old) }
-    ensures form { MatchBool result (Echelon (8 * front) (8 * back) (matrix (front + back) hp.old) (matrix back out.new)) (Dependent (8 * front) (matrix (front + back) hp.old) × (out.new ≡ out.old)) }
-    ensures reduced { MatchBool result (Same (8 * front) (8 * back) (reduced_of (8 * front) (matrix (front + back) hp.old)) (matrix back out.new)) (Unit {0}) }
+    ensures form { MatchResult result (λ _. Echelon (8 * front) (8 * back) (matrix (front + back) hp.old) (matrix back out.new)) (λ _. (Dependent (8 * front) (matrix (front + back) hp.old)) × (out.new ≡ out.old)) }
+    ensures reduced { MatchResult result (λ _. Same (8 * front) (8 * back) (reduced_of (8 * front) (matrix (front + back) hp.old)) (matrix back out.new)) (λ _. Unit {0}) }
     ensures rest { (k : ℕ) → 8 * front * back ≤ k → slice_index out.new k ≡ slice_index out.old k }
-    ensures decided { result ≡ independent (8 * front) (matrix (front + back) hp.old) }
+    ensures decided { is_ok result ≡ independent (8 * front) (matrix (front + back) hp.old) }
 {
     let width = front + back;
     let rows = 8 * front;
-    if !reduce(hp, width, rows) {
-        return false;
-    }
+    reduce(hp, width, rows)?;
     copy_columns(hp, width, rows, front, out, back);
-    true
+    Ok(())
 }
