@@ -8,7 +8,7 @@ ghost use Rattle.bits.specs.Reduced.{reduced_of};
 ghost use Rattle.polys.specs.Values.{value};
 ghost use Rattle.goppa.specs.Codes.{support};
 ghost use Rattle.keys.specs.Secret.{written, mixed_by, public_key_of};
-ghost use Rattle.keys.specs.Seeds.{support_of_seed, goppa_of, seed_of, count_of, taken_of};
+ghost use Rattle.keys.specs.Seeds.{support_of_seed, goppa_of, seed_of, count_of, Taken};
 ghost use Rattle.keys.specs.Calls.{seed_row, Made};
 
 use crate::candidates::{first_usable, seed_at};
@@ -36,8 +36,7 @@ fn write_code<F: BinaryField>(sizes: &Sizes, seed: &Seed, code: &mut [Place], g:
     goppa_polynomial::<F>(zeros_of(code, sizes.n, sizes.t), g);
 }
 
-// Writes the code of a seed and g, and gives the number of the first usable mixing seed, or how many
-// there are.
+// Writes the code of a seed and g, and gives the number of the first usable mixing seed.
 fn first_seed<F: BinaryField>(
     sizes: &Sizes,
     code_seed: &Seed,
@@ -47,12 +46,11 @@ fn first_seed<F: BinaryField>(
     g: &mut [Place],
     column: &mut [Place],
     positions: &mut [Position],
-) -> usize
+) -> Option<usize>
     requires sizes { (Lawful sizes.now) × (F.Field.bits ≡ sizes.now.m) }
     requires code { (length code.old ≡ 2 ^ F.Field.bits) × ((length g.old ≡ sizes.now.t + 1) × (length column.old ≡ sizes.now.t)) }
     requires work { (length square.old ≡ sizes.now.rows * sizes.now.vector) × (length positions.old ≡ sizes.now.n) }
-    ensures taken { result ≡ taken_of F.Field.ops F.Field.places sizes.now code_seed.now mixing_seeds.now }
-    ensures within { result ≤ count_of mixing_seeds.now }
+    ensures taken { Taken result F.Field.ops F.Field.places sizes.now code_seed.now mixing_seeds.now }
     ensures support { support sizes.now.n code.new ≡ support_of_seed F.Field.bits sizes.now code_seed.now }
     ensures g { g.new ≡ goppa_of F.Field.ops F.Field.places sizes.now code_seed.now }
     ensures long { length (support sizes.now.n code.new) ≡ sizes.now.n }
@@ -165,7 +163,7 @@ fn make_parts<F: BinaryField>(
     ensures answer { result ≡ answer (seed_row F.Field.ops F.Field.places sizes.now code_seed.now mixing_seeds.now ∷ []) }
     ensures gives { elim result [ Ok _ ↦ Made F.Field.ops F.Field.places sizes.now code_seed.now mixing_seeds.now decoy_seed.now public_key.new secret_key.new | Err _ ↦ (public_key.new ≡ public_key.old) × (secret_key.new ≡ secret_key.old) ] }
 {
-    let taken = first_seed::<F>(
+    let Some(taken) = first_seed::<F>(
         sizes,
         code_seed,
         mixing_seeds,
@@ -174,10 +172,9 @@ fn make_parts<F: BinaryField>(
         g,
         column,
         positions,
-    );
-    if taken == mixing_seeds.len() / 32 {
-        return Err(Fault::NoUsableSeed(taken));
-    }
+    ) else {
+        return Err(Fault::NoUsableSeed(mixing_seeds.len() / 32));
+    };
     let support = support_of(code, sizes.n);
     write_taken::<F>(
         sizes,
