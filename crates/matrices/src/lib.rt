@@ -1,7 +1,7 @@
 // Packed matrices in lent memory, row after row: products with packed vectors, and elimination.
 #![tactic(auto)]
 
-ghost use Rattle.std.specs.Prelude.{◌≡◌, ℕ, ◌+◌, ◌-◌, ◌*◌, ◌/◌, ◌^◌, ◌<◌, ◌≤◌, true, false, length, MatchBool, MatchOption, MatchResult, is_ok, ◌==◌, ◌≢◌, slice_index};
+ghost use Rattle.std.specs.Prelude.{◌≡◌, ℕ, ◌+◌, ◌-◌, ◌*◌, ◌/◌, ◌^◌, ◌<◌, ◌≤◌, true, false, length, MatchBool, MatchOption, MatchResult, is_ok, ◌==◌, ◌≢◌, slice_index, EachIndex, bit_xor};
 ghost use Rattle.bits.specs.Vectors.{◌⊕◌, dot, times, systematic};
 ghost use Rattle.bits.specs.Packed.{vector, matrix, packed};
 ghost use Rattle.bits.specs.Kernels.{Same, Independent, Dependent, independent, Reduced, Echelon, Ranked};
@@ -24,13 +24,14 @@ fn parity(row: &[u8], v: &[u8]) -> bool
     ensures { result ≡ dot (8 * length v.now) (vector row.now) (vector v.now) }
 {
     let mut sum: u8 = 0;
-    for k in 0..v.len() {
-        sum ^= row[k] & v[k];
+    for (x, y) in row.iter().zip(v) {
+        sum ^= x & y;
     }
     sum.count_ones() % 2 == 1
 }
 
-// Adds the product of a matrix, of as many rows as `out` has bits, and a vector to `out`.
+// Adds the product of a matrix, of as many rows as `out` has bits, and a vector to `out`. A row may have
+// no bytes, which `chunks_exact` would not take.
 pub fn add_product(m: &[u8], v: &[u8], out: &mut [u8])
     requires { (8 * length out.old * length v.now ≤ length m.now) × (8 * length out.old < 2 ^ 63) }
     ensures { (i : ℕ) → i < 8 * length out.old → vector out.new i ≡ (vector out.old i ⊕ dot (8 * length v.now) (matrix (length v.now) m.now i) (vector v.now)) }
@@ -61,40 +62,29 @@ pub fn entry(m: &[u8], width: usize, row: usize, col: usize) -> bool
     bits::bit(&m[row * width..], col)
 }
 
-// Adds the `len` bytes from `from` on to those from `into` on, which lie apart.
-fn add_bytes(m: &mut [u8], into: usize, from: usize, len: usize)
-    requires within { (into + len ≤ length m.old) × (from + len ≤ length m.old) }
-    requires apart { Apart len into from }
-    ensures { Summed len into from m.old m.new }
+// Adds bytes to as many others.
+fn add_rest(into: &mut [u8], from: &[u8])
+    requires { length into.old ≡ length from.now }
+    ensures { EachIndex into.new (λ k. slice_index into.new k ≡ bit_xor (slice_index into.old k) (slice_index from.now k)) }
 {
-    for k in 0..len {
-        m[into + k] ^= m[from + k];
+    for (i, x) in into.iter_mut().enumerate() {
+        *x ^= from[i];
     }
 }
 
-// The same sixteen bytes at a time, while there are as many; it gives how many bytes it has added.
-fn add_lanes(m: &mut [u8], into: usize, from: usize, len: usize) -> usize
-    requires within { (into + len ≤ length m.old) × (from + len ≤ length m.old) }
-    requires apart { Apart len into from }
-    ensures { (result ≤ len) × Summed result into from m.old m.new }
+// The same sixteen bytes at a time, while there are as many: byte by byte it takes four times as long.
+fn add_bytes(into: &mut [u8], from: &[u8])
+    requires { length into.old ≡ length from.now }
+    ensures { EachIndex into.new (λ k. slice_index into.new k ≡ bit_xor (slice_index into.old k) (slice_index from.now k)) }
 {
-    let mut k = 0;
-    while len - k >= 16 {
-        let x = u8x16::from_slice(&m[into + k..]) ^ u8x16::from_slice(&m[from + k..]);
-        x.copy_to_slice(&mut m[into + k..]);
-        k += 16;
+    let whole = into.len() / 16;
+    for i in 0..whole {
+        let at = 16 * i;
+        let x = u8x16::from_slice(&into[at..]) ^ u8x16::from_slice(&from[at..]);
+        x.copy_to_slice(&mut into[at..]);
     }
-    k
-}
-
-// The same by both.
-fn add_part(m: &mut [u8], into: usize, from: usize, len: usize)
-    requires within { (into + len ≤ length m.old) × (from + len ≤ length m.old) }
-    requires apart { Apart len into from }
-    ensures { Summed len into from m.old m.new }
-{
-    let k = add_lanes(m, into, from, len);
-    add_bytes(m, into + k, from + k, len - k);
+    let at = 16 * whole;
+    add_rest(&mut into[at..], &from[at..]);
 }
 
 // Adds row `from` to row `into`, another row, where a row has `width` bytes.
@@ -103,7 +93,13 @@ pub fn add_row(m: &mut [u8], width: usize, from: usize, into: usize)
     requires other { from ≢ into }
     ensures { Added (8 * width) from into (matrix width m.old) (matrix width m.new) }
 {
-    add_part(m, into * width, from * width, width);
+    if from < into {
+        let (front, back) = m.split_at_mut(into * width);
+        add_bytes(&mut back[..width], &front[from * width..from * width + width]);
+    } else {
+        let (front, back) = m.split_at_mut(from * width);
+        add_bytes(&mut front[into * width..into * width + width], &back[..width]);
+    }
 }
 
 // The first row from k on that has a one in column c.
@@ -210,7 +206,7 @@ fn copy_part(m: &[u8], from: usize, out: &mut [u8], to: usize, some: usize)
 }
 
 // Copies the columns from 8 * skip on, 8 * some of them, of each row into a matrix whose rows have
-// `some` bytes.
+// `some` bytes. Rows may have no bytes, which `chunks_exact` would not take.
 pub fn copy_columns(m: &[u8], width: usize, rows: usize, skip: usize, out: &mut [u8], some: usize)
     requires { (rows * width ≤ length m.now) × ((skip + some ≤ width) × (rows * some ≤ length out.old)) }
     ensures { ColumnsCopied width some skip rows m.now out.old out.new }
