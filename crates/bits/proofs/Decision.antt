@@ -1,5 +1,5 @@
 -- The test of independence.
-use Rattle.std.proofs.Common.{◌≡◌, ℕ, zero, suc, ◌+◌, ◌<◌, ◌≤◌, Bool, true, false, cond, not, ◌&&◌, ◌||◌, eqb, MatchBool, sym, refl, ◌∙◌, inl, inr, arith}
+use Rattle.std.proofs.Common.{◌≡◌, ℕ, zero, suc, ◌+◌, ◌<◌, ◌≤◌, Bool, true, false, cond, not, ◌&&◌, ◌||◌, eqb, Ok, Err, Result, is_ok, MatchBool, MatchResult, sym, refl, ◌∙◌, inl, inr, arith}
 use Rattle.std.proofs.lemmas.Bool.{cases_eq, cases_Bool, eq-eqb, ne_eqb, both_ways}
 use Rattle.bits.specs.Vectors.{◌⊕◌, Vector, Matrix, times, weight}
 use Rattle.bits.specs.Kernels.{Same, InKernel, Independent, Dependent, some_vector, relates, independent, Reduced}
@@ -162,6 +162,9 @@ independent_same r A B s =
     rw (some_same r (relates r A) (relates r B)
     (λ z. rw (weight_same r (times r A z) (times r B z) (λ i l. dot_same r (A i) (B i) z z (λ j m. sym (s i j l m)) (λ j m. refl)))))
 
-pub reduced_decides : (r n : ℕ) (A B : Matrix) (b : Bool) → MatchBool b (Reduced r n A B) (Dependent r A) → MatchBool b (Independent r A) (Dependent r A)
-reduced_decides r n A B true h = injective r n A B h
-reduced_decides r n A B false h = h
+-- the outcome of an elimination says which
+pub reduced_decides :
+    {E : Type 0} → (r n : ℕ) (A B : Matrix) (o : Result (Unit {0}) E) → MatchResult o (λ _. Reduced r n A B) (λ _. Dependent r A)
+    → MatchBool (is_ok o) (Independent r A) (Dependent r A)
+reduced_decides r n A B (Ok x) h = injective r n A B h
+reduced_decides r n A B (Err e) h = h

@@ -1,7 +1,7 @@
 -- The first number that passes a test.
-use Rattle.std.proofs.Common.{◌≡◌, ℕ, zero, suc, ◌<◌, ◌≤◌, Bool, true, false, ◌∙◌, inl, inr, arith}
+use Rattle.std.proofs.Common.{◌≡◌, ℕ, zero, suc, ◌<◌, ◌≤◌, Bool, true, false, Option, Some, None, sym, ◌∙◌, inl, inr, arith}
 use Rattle.std.proofs.lemmas.Bool.{cases_Bool, cases_order, both_ways}
-use Rattle.bits.specs.Search.{first_place}
+use Rattle.bits.specs.Search.{first_place, Found}
 
 pub first_le : (n : ℕ) (p : ℕ → Bool) → first_place n p ≤ n
 unfolding first_place
@@ -55,3 +55,8 @@ pub first_same : (n : ℕ) (p q : ℕ → Bool) → ((j : ℕ) → j < n → p j
 first_same n p q h =
     let le : first_place n q ≤ n = first_le n q in
     first_is n p (first_place n q) le (λ j l. h j (omega arith) ∙ first_before n q j l) (λ l. h (first_place n q) l ∙ first_here n q l)
+
+-- what a search over the same numbers answers, where the test is told in other words
+pub found_same : (n : ℕ) (p q : ℕ → Bool) (o : Option ℕ) → ((j : ℕ) → j < n → p j ≡ q j) → Found o n q → Found o n p
+found_same n p q None h f = first_same n p q h ∙ f
+found_same n p q (Some i) h f = (f.0, f.1 ∙ sym (first_same n p q h))

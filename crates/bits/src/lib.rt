@@ -38,7 +38,7 @@ pub fn word_at(bytes: &[u8], i: usize) -> u16
     requires { 2 * i + 1 < length bytes.now }
     ensures { result ≡ word bytes.now i }
 {
-    256 * (bytes[2 * i] as u16) + bytes[2 * i + 1] as u16
+    u16::from_be_bytes([bytes[2 * i], bytes[2 * i + 1]])
 }
 
 // Writes 16-bit numbers.
@@ -47,9 +47,10 @@ pub fn write_words(words: &[u16], out: &mut [u8])
     ensures bytes { out.new ≡ word_bytes words.now }
     ensures back { (i : ℕ) → word out.new i ≡ slice_index words.now i }
 {
-    for i in 0..words.len() {
-        out[2 * i] = (words[i] >> 8) as u8;
-        out[2 * i + 1] = (words[i] & 0xff) as u8;
+    for (i, word) in words.iter().enumerate() {
+        let [high, low] = word.to_be_bytes();
+        out[2 * i] = high;
+        out[2 * i + 1] = low;
     }
 }
 

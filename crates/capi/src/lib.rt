@@ -20,6 +20,7 @@ use levels::Level;
 use levels::faults::{Fault, Report};
 use levels::guards::{Place, Position, PositionsGuard, Work};
 use narrow::Narrow;
+use shuffles::Seed;
 
 // An answer as number, layer, part and place.
 fn told_of(answer: Result<(), Fault>) -> [u64; 4]
@@ -63,8 +64,8 @@ fn digest<H: Hash>(
     second: &[u8],
     out: &mut [u8],
 ) -> Result<(), Fault>
-    ensures answer { number_of result ≡ hash_answer (H.Hash.capacity hash.old) first.now second.now out.old }
-    ensures gives { out.new ≡ hash_after (H.Hash.capacity hash.old) (H.Hash.rule hash.old) first.now second.now out.old }
+    ensures answer { number_of result ≡ hash_answer (H.capacity hash.old) first.now second.now out.old }
+    ensures gives { out.new ≡ hash_after (H.capacity hash.old) (H.rule hash.old) first.now second.now out.old }
 {
     if out.len() != 32 {
         return Err(Fault::WrongLength(1));
@@ -100,16 +101,16 @@ pub extern "C" fn zq_shuffle(seed: &[u8], items: &mut [Position]) -> u64
     ensures answer { result ≡ (if nat_eq (length seed.now) 32 then 0 else 3) }
     ensures gives { items.new ≡ (if nat_eq (length seed.now) 32 then shuffled seed.now items.old else items.old) }
 {
-    if seed.len() != 32 {
+    let Some(seed) = seed.as_array() else {
         return 3;
-    }
+    };
     shuffles::shuffle(items, seed);
     0
 }
 
 // Permutes a vector by a seed.
-fn permute(seed: &[u8], inverse: u8, vector: &[u8], out: &mut [u8], order: &mut [Position])
-    requires { (length seed.now ≡ 32) × ((length out.old ≡ length vector.now) × ((length order.old ≡ 8 * length vector.now) × (length order.old < 2 ^ 32))) }
+fn permute(seed: &Seed, inverse: u8, vector: &[u8], out: &mut [u8], order: &mut [Position])
+    requires { (length out.old ≡ length vector.now) × ((length order.old ≡ 8 * length vector.now) × (length order.old < 2 ^ 32)) }
     ensures { out.new ≡ permuted inverse seed.now vector.now }
 {
     if inverse == 0 {
@@ -130,9 +131,9 @@ fn permute_by(
     ensures answer { number_of result ≡ permute_answer seed.now vector.now out.old (length positions.old) }
     ensures gives { out.new ≡ permute_after inverse seed.now vector.now out.old (length positions.old) }
 {
-    if seed.len() != 32 {
+    let Some(seed) = seed.as_array() else {
         return Err(Fault::WrongLength(0));
-    }
+    };
     if out.len() != vector.len() || vector.len() >= 0x1000_0000 {
         return Err(Fault::WrongLength(1));
     }
@@ -176,9 +177,9 @@ fn error_vector_at(
     ensures gives { out.new ≡ error_vector_after (level_of level.now) seed.now out.old (length positions.old) }
 {
     let sizes = level.parse::<Level>()?.sizes();
-    if seed.len() != 32 {
+    let Some(seed) = seed.as_array() else {
         return Err(Fault::WrongLength(0));
-    }
+    };
     if out.len() != sizes.vector {
         return Err(Fault::WrongLength(1));
     }

@@ -1,13 +1,12 @@
 // The code of a seed: all places of the field in the order that the seed gives. The first n are the
 // support, the next t the zeros.
 ghost use Rattle.std.specs.Prelude.{◌≡◌, ℕ, ◌+◌, ◌^◌, ◌≤◌, length};
-ghost use Rattle.std.specs.List.{range_with_len};
 ghost use Rattle.shuffles.specs.Orders.{Permutation};
 ghost use Rattle.goppa.specs.Codes.{code_list, support, zeros, OffSupport};
 
 use fields::field::{BinaryField, Field};
 use levels::guards::Place;
-use shuffles::shuffle;
+use shuffles::{Seed, count_from, shuffle};
 
 // The number of elements of the field.
 pub fn size<F: BinaryField>() -> usize
@@ -17,24 +16,13 @@ pub fn size<F: BinaryField>() -> usize
     1 << F::BITS
 }
 
-// Writes each place to its own position.
-fn count_up(places: &mut [Place])
-    requires { length places.old ≤ 2 ^ 16 }
-    ensures { places.new ≡ range_with_len 0 (length places.old) }
-{
-    for i in 0..places.len() {
-        places[i] = i as u16;
-    }
-}
-
 // Writes the places of all elements, shuffled by a seed. Each stands there once.
-pub fn code_of<F: BinaryField>(places: &mut [Place], seed: &[u8])
-    requires long { (length places.old ≡ 2 ^ F.Field.BITS) × (F.Field.BITS ≤ 16) }
-    requires seed { length seed.now ≡ 32 }
+pub fn code_of<F: BinaryField>(places: &mut [Place], seed: &Seed)
+    requires { (length places.old ≡ 2 ^ F.Field.BITS) × (F.Field.BITS ≤ 16) }
     ensures after { places.new ≡ code_list F.Field.BITS seed.now }
     ensures once { Permutation (2 ^ F.Field.BITS) places.new }
 {
-    count_up(places);
+    count_from(0, places);
     shuffle(places, seed);
 }
 

@@ -1,12 +1,12 @@
 -- The keys of seeds. The elements in the order of the code seed begin with the support; after it come the zeros of g.
-use Rattle.std.specs.Prelude.{◌≡◌, ℕ, ◌+◌, ◌*◌, ◌/◌, Bool, List, map, length, take, drop}
+use Rattle.std.specs.Prelude.{◌≡◌, ℕ, ◌+◌, ◌*◌, ◌/◌, Bool, Option, List, map, length, take, drop}
 use Rattle.std.specs.List.{range_with_len}
 use Rattle.levels.specs.declared.Sizes.{Sizes}
 use Rattle.algebra.specs.Field.{Ops, Places}
 use Rattle.bits.specs.Vectors.{Matrix}
 use Rattle.bits.specs.Kernels.{independent, Echelon}
 use Rattle.bits.specs.Reduced.{reduced_of}
-use Rattle.bits.specs.Search.{first_place}
+use Rattle.bits.specs.Search.{first_place, Found}
 use Rattle.goppa.specs.Codes.{code_list, support, zeros}
 use Rattle.goppa.specs.Zeros.{from_zeros}
 use Rattle.sealing.specs.Tickets.{Rule}
@@ -44,6 +44,10 @@ count_of seeds = length seeds / 32
 -- the number of the first usable seed of a list, or how many seeds it has
 abbrev pub taken_of : {A : Type 0} {m : ℕ} → Ops A → Places A m → Sizes → (code seeds : List ℕ) → ℕ
 taken_of f pl s code seeds = first_place (count_of seeds) (λ i. usable f pl s code (seed_of seeds i))
+
+-- what the search for it answers
+abbrev pub Taken : {A : Type 0} {m : ℕ} → Option ℕ → Ops A → Places A m → Sizes → (code seeds : List ℕ) → Type 0
+Taken o f pl s code seeds = Found o (count_of seeds) (λ i. usable f pl s code (seed_of seeds i))
 
 -- the secret key of a code seed, a mixing seed and a decoy seed
 abbrev pub secret_key_of : {A : Type 0} {m : ℕ} → Ops A → Places A m → Sizes → (code mixing decoy : List ℕ) → List ℕ

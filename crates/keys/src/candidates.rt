@@ -1,7 +1,7 @@
 // The search for a usable mixing seed.
 ghost use Rattle.std.specs.Prelude.{◌≡◌, ℕ, ◌+◌, ◌*◌, ◌^◌, ◌<◌, ◌≤◌, length, ◌≢◌, slice_index};
 ghost use Rattle.bits.specs.Kernels.{independent};
-ghost use Rattle.bits.specs.Search.{first_place};
+ghost use Rattle.bits.specs.Search.{Found};
 ghost use Rattle.polys.specs.Values.{value};
 ghost use Rattle.shuffles.specs.Orders.{order};
 ghost use Rattle.goppa.specs.Matrix.{mixed_matrix};
@@ -11,19 +11,18 @@ use fields::field::{BinaryField, Field};
 use goppa::mixed::write_mixed;
 use levels::guards::{Place, Position};
 use matrices::settle;
-use shuffles::order_by;
+use shuffles::{Seed, order_by};
 
 // Seed i of a list.
-pub fn seed_at(seeds: &[u8], i: usize) -> &[u8]
+pub fn seed_at(seeds: &[u8], i: usize) -> &Seed
     requires { i < count_of seeds.now }
-    ensures is { result.now ≡ seed_of seeds.now i }
-    ensures long { length result.now ≡ 32 }
+    ensures { result.now ≡ seed_of seeds.now i }
 {
-    &seeds[32 * i..32 * i + 32]
+    &seeds.as_chunks::<32>().0[i]
 }
 
-// The number of the first usable seed, or how many seeds there are. A seed is usable if the square
-// matrix of 8 * body rows in front of its HP has a pivot in each column.
+// The number of the first usable seed. A seed is usable if the square matrix of 8 * body rows in
+// front of its HP has a pivot in each column.
 pub fn first_usable<F: BinaryField>(
     g: &[Place],
     support: &[Place],
@@ -32,27 +31,23 @@ pub fn first_usable<F: BinaryField>(
     column: &mut [Place],
     square: &mut [u8],
     positions: &mut [Position],
-) -> usize
+) -> Option<usize>
     requires code { (length g.now ≡ length column.old + 1) × ((1 ≤ length column.old) × (((k : ℕ) → k < length support.now → value F.Field.ops F.Field.places g.now (F.Field.places.at (slice_index support.now k)) ≢ F.Field.ops.zero))) }
     requires field { (F.Field.BITS ≤ 16) × ((0 < F.Field.BITS) × (F.Field.BITS * length column.old ≡ 8 * body)) }
     requires rows { (8 * body * body ≤ length square.old) × (8 * body < 2 ^ 32) }
     requires order { (length positions.old ≡ length support.now) × ((8 * body ≤ length positions.old) × (length positions.old < 2 ^ 32)) }
-    ensures is { result ≡ first_place (count_of seeds.now) (λ i. independent (8 * body) (mixed_matrix F.Field.ops F.Field.places (length column.old) g.now support.now (order (length positions.old) (seed_of seeds.now i)))) }
-    ensures within { result ≤ count_of seeds.now }
+    ensures { Found result (count_of seeds.now) (λ i. independent (8 * body) (mixed_matrix F.Field.ops F.Field.places (length column.old) g.now support.now (order (length positions.old) (seed_of seeds.now i)))) }
 {
-    let count = seeds.len() / 32;
     let rows = 8 * body;
-    let mut taken = count;
-    'seeds: for i in 0..count {
-        order_by(positions, seed_at(seeds, i));
+    'seeds: for (i, seed) in seeds.as_chunks::<32>().0.iter().enumerate() {
+        order_by(positions, seed);
         write_mixed::<F>(g, support, positions, column, square, body);
         for c in 0..rows {
-            if !settle(square, body, rows, c, c) {
+            if settle(square, body, rows, c, c).is_err() {
                 continue 'seeds;
             }
         }
-        taken = i;
-        break 'seeds;
+        return Some(i);
     }
-    taken
+    None
 }

@@ -21,18 +21,18 @@ use levels::Level;
 use levels::faults::Fault;
 use levels::guards::{BytesGuard, PlacesGuard, PositionsGuard, Work};
 use making::make_with;
+use shuffles::Seed;
 
 // Makes a pair over the field of a level, once the tests have passed.
 fn make_at(
     level: Level,
-    code_seed: &[u8],
+    code_seed: &Seed,
     mixing_seeds: &[u8],
-    decoy_seed: &[u8],
+    decoy_seed: &Seed,
     public_key: &mut [u8],
     secret_key: &mut [u8],
     work: &mut Work<'_>,
 ) -> Result<(), Fault>
-    requires seeds { (length code_seed.now ≡ 32) × (length decoy_seed.now ≡ 32) }
     requires work { ((sizes_of level).work_bytes ≤ length work.old.bytes.now) × (((sizes_of level).work_places ≤ length work.old.places.now) × ((sizes_of level).work_places ≤ length work.old.positions.now)) }
     requires keys { (length public_key.old ≡ (sizes_of level).public_key) × (length secret_key.old ≡ (sizes_of level).secret_key) }
     ensures answer { result ≡ tried_at (Ok level) code_seed.now mixing_seeds.now }
@@ -82,6 +82,12 @@ fn make_within(
         secret_key: secret_key.len(),
     };
     let level = check(level, buffers, work.lengths())?;
+    let Some(code_seed) = code_seed.as_array() else {
+        unreachable!()
+    };
+    let Some(decoy_seed) = decoy_seed.as_array() else {
+        unreachable!()
+    };
     make_at(
         level,
         code_seed,

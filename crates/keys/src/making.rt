@@ -8,7 +8,7 @@ ghost use Rattle.bits.specs.Reduced.{reduced_of};
 ghost use Rattle.polys.specs.Values.{value};
 ghost use Rattle.goppa.specs.Codes.{support};
 ghost use Rattle.keys.specs.Secret.{written, mixed_by, public_key_of};
-ghost use Rattle.keys.specs.Seeds.{support_of_seed, goppa_of, seed_of, count_of, taken_of};
+ghost use Rattle.keys.specs.Seeds.{support_of_seed, goppa_of, seed_of, count_of, Taken};
 ghost use Rattle.keys.specs.Calls.{seed_row, Made};
 
 use crate::candidates::{first_usable, seed_at};
@@ -20,13 +20,13 @@ use goppa::zeros::goppa_polynomial;
 use levels::Sizes;
 use levels::faults::Fault;
 use levels::guards::{Place, Position, Work};
-use shuffles::order_by;
+use shuffles::{Seed, order_by};
 
 // Writes all elements in the order of a code seed, and the polynomial g. No element of the support is a
 // zero of it.
-fn write_code<F: BinaryField>(sizes: &Sizes, seed: &[u8], code: &mut [Place], g: &mut [Place])
+fn write_code<F: BinaryField>(sizes: &Sizes, seed: &Seed, code: &mut [Place], g: &mut [Place])
     requires sizes { (Lawful sizes.now) × (F.Field.BITS ≡ sizes.now.m) }
-    requires long { (length seed.now ≡ 32) × ((length code.old ≡ 2 ^ F.Field.BITS) × (length g.old ≡ sizes.now.t + 1)) }
+    requires long { (length code.old ≡ 2 ^ F.Field.BITS) × (length g.old ≡ sizes.now.t + 1) }
     ensures support { support sizes.now.n code.new ≡ support_of_seed F.Field.BITS sizes.now seed.now }
     ensures g { g.new ≡ goppa_of F.Field.ops F.Field.places sizes.now seed.now }
     ensures long { length (support sizes.now.n code.new) ≡ sizes.now.n }
@@ -36,24 +36,21 @@ fn write_code<F: BinaryField>(sizes: &Sizes, seed: &[u8], code: &mut [Place], g:
     goppa_polynomial::<F>(zeros_of(code, sizes.n, sizes.t), g);
 }
 
-// Writes the code of a seed and g, and gives the number of the first usable mixing seed, or how many
-// there are.
+// Writes the code of a seed and g, and gives the number of the first usable mixing seed.
 fn first_seed<F: BinaryField>(
     sizes: &Sizes,
-    code_seed: &[u8],
+    code_seed: &Seed,
     mixing_seeds: &[u8],
     square: &mut [u8],
     code: &mut [Place],
     g: &mut [Place],
     column: &mut [Place],
     positions: &mut [Position],
-) -> usize
+) -> Option<usize>
     requires sizes { (Lawful sizes.now) × (F.Field.BITS ≡ sizes.now.m) }
-    requires seed { length code_seed.now ≡ 32 }
     requires code { (length code.old ≡ 2 ^ F.Field.BITS) × ((length g.old ≡ sizes.now.t + 1) × (length column.old ≡ sizes.now.t)) }
     requires work { (length square.old ≡ sizes.now.rows * sizes.now.vector) × (length positions.old ≡ sizes.now.n) }
-    ensures taken { result ≡ taken_of F.Field.ops F.Field.places sizes.now code_seed.now mixing_seeds.now }
-    ensures within { result ≤ count_of mixing_seeds.now }
+    ensures taken { Taken result F.Field.ops F.Field.places sizes.now code_seed.now mixing_seeds.now }
     ensures support { support sizes.now.n code.new ≡ support_of_seed F.Field.BITS sizes.now code_seed.now }
     ensures g { g.new ≡ goppa_of F.Field.ops F.Field.places sizes.now code_seed.now }
     ensures long { length (support sizes.now.n code.new) ≡ sizes.now.n }
@@ -77,14 +74,13 @@ fn write_hp<F: BinaryField>(
     sizes: &Sizes,
     g: &[Place],
     support: &[Place],
-    mixing: &[u8],
+    mixing: &Seed,
     column: &mut [Place],
     hp: &mut [u8],
     positions: &mut [Position],
 )
     requires sizes { (Lawful sizes.now) × (F.Field.BITS ≡ sizes.now.m) }
     requires code { (length g.now ≡ sizes.now.t + 1) × ((length support.now ≡ sizes.now.n) × (((k : ℕ) → k < length support.now → value F.Field.ops F.Field.places g.now (F.Field.places.at (slice_index support.now k)) ≢ F.Field.ops.zero))) }
-    requires seed { length mixing.now ≡ 32 }
     requires work { (length column.old ≡ sizes.now.t) × ((sizes.now.rows * sizes.now.vector ≤ length hp.old) × (length positions.old ≡ sizes.now.n)) }
     ensures { (i j : ℕ) → i < sizes.now.rows → j < sizes.now.n → matrix sizes.now.vector hp.new i j ≡ mixed_by F.Field.ops F.Field.places sizes.now support.now g.now mixing.now i j }
 {
@@ -97,8 +93,8 @@ fn write_pair<F: BinaryField>(
     sizes: &Sizes,
     g: &[Place],
     support: &[Place],
-    mixing: &[u8],
-    decoy: &[u8],
+    mixing: &Seed,
+    decoy: &Seed,
     column: &mut [Place],
     hp: &mut [u8],
     positions: &mut [Position],
@@ -107,7 +103,6 @@ fn write_pair<F: BinaryField>(
 )
     requires sizes { (Lawful sizes.now) × (F.Field.BITS ≡ sizes.now.m) }
     requires code { (length g.now ≡ sizes.now.t + 1) × ((length support.now ≡ sizes.now.n) × (((k : ℕ) → k < length support.now → value F.Field.ops F.Field.places g.now (F.Field.places.at (slice_index support.now k)) ≢ F.Field.ops.zero))) }
-    requires seeds { (length mixing.now ≡ 32) × (length decoy.now ≡ 32) }
     requires work { (length column.old ≡ sizes.now.t) × ((sizes.now.rows * sizes.now.vector ≤ length hp.old) × (length positions.old ≡ sizes.now.n)) }
     requires keys { (length public_key.old ≡ sizes.now.public_key) × (length secret_key.old ≡ sizes.now.secret_key) }
     requires usable { independent sizes.now.rows (mixed_by F.Field.ops F.Field.places sizes.now support.now g.now mixing.now) ≡ true }
@@ -125,7 +120,7 @@ fn write_taken<F: BinaryField>(
     support: &[Place],
     seeds: &[u8],
     taken: usize,
-    decoy: &[u8],
+    decoy: &Seed,
     column: &mut [Place],
     hp: &mut [u8],
     positions: &mut [Position],
@@ -134,7 +129,7 @@ fn write_taken<F: BinaryField>(
 )
     requires sizes { (Lawful sizes.now) × (F.Field.BITS ≡ sizes.now.m) }
     requires code { (length g.now ≡ sizes.now.t + 1) × ((length support.now ≡ sizes.now.n) × (((k : ℕ) → k < length support.now → value F.Field.ops F.Field.places g.now (F.Field.places.at (slice_index support.now k)) ≢ F.Field.ops.zero))) }
-    requires seeds { (taken < count_of seeds.now) × (length decoy.now ≡ 32) }
+    requires taken { taken < count_of seeds.now }
     requires work { (length column.old ≡ sizes.now.t) × ((sizes.now.rows * sizes.now.vector ≤ length hp.old) × (length positions.old ≡ sizes.now.n)) }
     requires keys { (length public_key.old ≡ sizes.now.public_key) × (length secret_key.old ≡ sizes.now.secret_key) }
     requires usable { independent sizes.now.rows (mixed_by F.Field.ops F.Field.places sizes.now support.now g.now (seed_of seeds.now taken)) ≡ true }
@@ -150,9 +145,9 @@ fn write_taken<F: BinaryField>(
 // Makes a pair in parts of the work memory with any content.
 fn make_parts<F: BinaryField>(
     sizes: &Sizes,
-    code_seed: &[u8],
+    code_seed: &Seed,
     mixing_seeds: &[u8],
-    decoy_seed: &[u8],
+    decoy_seed: &Seed,
     public_key: &mut [u8],
     secret_key: &mut [u8],
     hp: &mut [u8],
@@ -162,14 +157,13 @@ fn make_parts<F: BinaryField>(
     positions: &mut [Position],
 ) -> Result<(), Fault>
     requires sizes { (Lawful sizes.now) × (F.Field.BITS ≡ sizes.now.m) }
-    requires seeds { (length code_seed.now ≡ 32) × (length decoy_seed.now ≡ 32) }
     requires code { (length code.old ≡ 2 ^ F.Field.BITS) × ((length g.old ≡ sizes.now.t + 1) × (length column.old ≡ sizes.now.t)) }
     requires work { (length hp.old ≡ sizes.now.rows * sizes.now.vector) × (length positions.old ≡ sizes.now.n) }
     requires keys { (length public_key.old ≡ sizes.now.public_key) × (length secret_key.old ≡ sizes.now.secret_key) }
     ensures answer { result ≡ answer (seed_row F.Field.ops F.Field.places sizes.now code_seed.now mixing_seeds.now ∷ []) }
     ensures gives { elim result [ Ok _ ↦ Made F.Field.ops F.Field.places sizes.now code_seed.now mixing_seeds.now decoy_seed.now public_key.new secret_key.new | Err _ ↦ (public_key.new ≡ public_key.old) × (secret_key.new ≡ secret_key.old) ] }
 {
-    let taken = first_seed::<F>(
+    let Some(taken) = first_seed::<F>(
         sizes,
         code_seed,
         mixing_seeds,
@@ -178,10 +172,9 @@ fn make_parts<F: BinaryField>(
         g,
         column,
         positions,
-    );
-    if taken == mixing_seeds.len() / 32 {
-        return Err(Fault::NoUsableSeed(taken));
-    }
+    ) else {
+        return Err(Fault::NoUsableSeed(mixing_seeds.len() / 32));
+    };
     let support = support_of(code, sizes.n);
     write_taken::<F>(
         sizes,
@@ -202,15 +195,14 @@ fn make_parts<F: BinaryField>(
 // Makes a pair in the work memory, once the tests have passed.
 pub fn make_with<F: BinaryField>(
     sizes: &Sizes,
-    code_seed: &[u8],
+    code_seed: &Seed,
     mixing_seeds: &[u8],
-    decoy_seed: &[u8],
+    decoy_seed: &Seed,
     public_key: &mut [u8],
     secret_key: &mut [u8],
     work: &mut Work<'_>,
 ) -> Result<(), Fault>
     requires sizes { (Lawful sizes.now) × (F.Field.BITS ≡ sizes.now.m) }
-    requires seeds { (length code_seed.now ≡ 32) × (length decoy_seed.now ≡ 32) }
     requires work { (sizes.now.work_bytes ≤ length work.old.bytes.now) × ((sizes.now.work_places ≤ length work.old.places.now) × (sizes.now.work_places ≤ length work.old.positions.now)) }
     requires keys { (length public_key.old ≡ sizes.now.public_key) × (length secret_key.old ≡ sizes.now.secret_key) }
     ensures answer { result ≡ answer (seed_row F.Field.ops F.Field.places sizes.now code_seed.now mixing_seeds.now ∷ []) }

@@ -11,6 +11,7 @@ ghost use Rattle.keys.specs.Secret.{written, public_key_of};
 use levels::Sizes;
 use levels::guards::Place;
 use matrices::{copy_columns, echelon};
+use shuffles::Seed;
 
 // Writes the first columns of each row, 8 * some of them.
 fn write_front(m: &[u8], width: usize, rows: usize, out: &mut [u8], some: usize)
@@ -31,8 +32,8 @@ fn write_both(first: &[u8], second: &[u8], out: &mut [u8])
 }
 
 // Writes two seeds.
-fn write_seeds(mixing: &[u8], decoy: &[u8], out: &mut [u8])
-    requires { (length mixing.now ≡ 32) × ((length decoy.now ≡ 32) × (length out.old ≡ 64)) }
+fn write_seeds(mixing: &Seed, decoy: &Seed, out: &mut [u8])
+    requires { length out.old ≡ 64 }
     ensures { out.new ≡ mixing.now ++ decoy.now }
 {
     write_both(mixing, decoy, out);
@@ -49,9 +50,8 @@ fn write_elements(support: &[Place], g: &[Place], out: &mut [u8])
 }
 
 // Writes the matrix S⁻¹, which stands in front of HP, and the seeds.
-fn write_rest(sizes: &Sizes, hp: &[u8], mixing: &[u8], decoy: &[u8], out: &mut [u8])
+fn write_rest(sizes: &Sizes, hp: &[u8], mixing: &Seed, decoy: &Seed, out: &mut [u8])
     requires sizes { (Lawful sizes.now) × ((sizes.now.rows * sizes.now.vector ≤ length hp.now) × (length out.old ≡ sizes.now.rows * sizes.now.body + 64)) }
-    requires seeds { (length mixing.now ≡ 32) × (length decoy.now ≡ 32) }
     ensures { out.new ≡ matrix_bytes sizes.now.rows sizes.now.body (matrix sizes.now.vector hp.now) ++ (mixing.now ++ decoy.now) }
 {
     let at = sizes.rows * sizes.body;
@@ -65,13 +65,12 @@ fn write_secret(
     support: &[Place],
     g: &[Place],
     hp: &[u8],
-    mixing: &[u8],
-    decoy: &[u8],
+    mixing: &Seed,
+    decoy: &Seed,
     out: &mut [u8],
 )
     requires sizes { (Lawful sizes.now) × ((sizes.now.rows * sizes.now.vector ≤ length hp.now) × (length out.old ≡ sizes.now.secret_key)) }
     requires code { (length support.now ≡ sizes.now.n) × (length g.now ≡ sizes.now.t + 1) }
-    requires seeds { (length mixing.now ≡ 32) × (length decoy.now ≡ 32) }
     ensures { out.new ≡ written sizes.now support.now g.now (matrix sizes.now.vector hp.now) mixing.now decoy.now }
 {
     let at = 2 * sizes.n + 2 * sizes.t;
@@ -96,14 +95,13 @@ pub fn write_keys(
     support: &[Place],
     g: &[Place],
     hp: &mut [u8],
-    mixing: &[u8],
-    decoy: &[u8],
+    mixing: &Seed,
+    decoy: &Seed,
     public_key: &mut [u8],
     secret_key: &mut [u8],
 )
     requires sizes { (Lawful sizes.now) × (sizes.now.rows * sizes.now.vector ≤ length hp.old) }
     requires code { (length support.now ≡ sizes.now.n) × (length g.now ≡ sizes.now.t + 1) }
-    requires seeds { (length mixing.now ≡ 32) × (length decoy.now ≡ 32) }
     requires keys { (length public_key.old ≡ sizes.now.public_key) × (length secret_key.old ≡ sizes.now.secret_key) }
     requires front { independent sizes.now.rows (matrix sizes.now.vector hp.old) ≡ true }
     ensures public { public_key.new ≡ public_key_of sizes.now (reduced_of sizes.now.rows (matrix sizes.now.vector hp.old)) }

@@ -3,3 +3,4 @@ pub mod Parts
 pub mod Rows
 pub mod Additions
 pub mod Entries
+pub mod Outcomes

@@ -1,7 +1,8 @@
 -- Rows of bytes as rows of bits.
-use Rattle.std.proofs.Common.{◌≡◌, ℕ, ◌+◌, ◌*◌, ◌/◌, ◌%◌, ◌<◌, ◌≤◌, List, length, get_or, drop, ◌∙◌, inl, inr, arith}
+use Rattle.std.proofs.Common.{◌≡◌, ℕ, ◌+◌, ◌*◌, ◌/◌, ◌%◌, ◌<◌, ◌≤◌, List, ◌++◌, length, get_or, take, drop, bit_xor, sym, ap, append_assoc, ◌∙◌, inl, inr, arith, rules}
+use borrow.Rule.Slice.PartMut.{put_mid}
 use Rattle.std.proofs.lemmas.Nat.{div_below}
-use Rattle.std.proofs.lemmas.List.{get_or-drop}
+use Rattle.std.proofs.lemmas.List.{get_or-take, get_or-drop, places, length-take-le, drop-drop, drop-append-le, take-append-drop, take-take}
 use Rattle.std.proofs.lemmas.Bool.{cases_lt, cases_eq}
 use Rattle.bits.specs.Vectors.{◌⊕◌}
 use Rattle.bits.specs.Packed.{vector, matrix}
@@ -43,6 +44,34 @@ added_row w from into xs ys h = (others, sum) where
   sum j l =
       rw (h.done (j / 8) (byte_of w j l))
       (bit_of_xor (get_or xs (into * w + j / 8) 0) (get_or xs (from * w + j / 8) 0) (j % 8))
+
+-- the byte at k of a part
+pub part_at : (n f k : ℕ) (xs : List ℕ) → k < n → get_or (take n (drop f xs)) k 0 ≡ get_or xs (f + k) 0
+part_at n f k xs l = get_or-take n (drop f xs) k 0 l ∙ get_or-drop f xs k 0
+
+-- sums written over the n bytes from a on
+module _ (n a b : ℕ) (xs ys : List ℕ) (ly : length ys ≡ n) (each : (k : ℕ) → k < n → get_or ys k 0 ≡ bit_xor (get_or xs (a + k) 0) (get_or xs (b + k) 0)) where
+  pub summed_part : a + n ≤ length xs → Summed n a b xs (put_mid a n xs ys)
+  summed_part l =
+      record {
+        done = λ k m. let e : get_or (put_mid a n xs ys) (a + k) 0 ≡ get_or ys k 0 = search (rules, places) in e ∙ each k m;
+        before = λ k m. search (rules, places);
+        after = λ k m. search (rules, places);
+      }
+
+  -- the same, where the bytes up to f stand apart from the rest
+  pub summed_front : (f : ℕ) → a + n ≤ f → f ≤ length xs → Summed n a b xs (put_mid a n (take f xs) ys ++ drop f xs)
+  summed_front f l m =
+      let t = take f xs in
+      let lt : length t ≡ f = length-take-le f xs m in
+      let d : drop n (drop a t) ++ drop f xs ≡ drop n (drop a xs) =
+      rw (drop-drop n a t, drop-drop n a xs)
+      (sym (drop-append-le (a + n) t (drop f xs) (omega arith)) ∙ ap (λ (l : List ℕ). drop (a + n) l) (take-append-drop f xs)) in
+      let e : put_mid a n t ys ++ drop f xs ≡ put_mid a n xs ys =
+      rw (take-take a f xs (omega arith))
+      (append_assoc (take a xs) (ys ++ drop n (drop a t)) (drop f xs)
+      ∙ ap (λ (l : List ℕ). take a xs ++ l) (append_assoc ys (drop n (drop a t)) (drop f xs) ∙ ap (λ (l : List ℕ). ys ++ l) d)) in
+      rw e (summed_part (omega arith))
 
 -- a loop that copies some columns of one row after another
 pub copied_more :

@@ -1,5 +1,5 @@
 -- Rows of bytes, and what operations on them leave.
-use Rattle.std.specs.Prelude.{◌≡◌, ℕ, ◌+◌, ◌*◌, ◌<◌, ◌≤◌, Bool, true, false, ◌⊎◌, List, length, MatchBool, bit_xor, slice_index}
+use Rattle.std.specs.Prelude.{◌≡◌, ℕ, ◌+◌, ◌*◌, ◌<◌, ◌≤◌, true, false, ◌⊎◌, List, length, MatchResult, Result, bit_xor, slice_index}
 use Rattle.bits.specs.Packed.{matrix}
 use Rattle.bits.specs.Elimination.{Settled}
 
@@ -34,9 +34,13 @@ pub record ColumnsCopied (w s skip r : ℕ) (xs ys zs : List ℕ) : Type 0 where
   pub columns : (i j : ℕ) → i < r → j < 8 * s → matrix s zs i j ≡ matrix w xs i (8 * skip + j)
   pub rest : (k : ℕ) → r * s ≤ k → slice_index zs k ≡ slice_index ys k
 
+-- row p is the first of r from k on that has a one in column c
+abbrev pub PivotAt : ℕ → ℕ → ℕ → ℕ → ℕ → List ℕ → Type 0
+PivotAt w r k c p bs = (k ≤ p) × (p < r) × (matrix w bs p c ≡ true) × ((i : ℕ) → k ≤ i → i < p → matrix w bs i c ≡ false)
+
 -- a row p from k on has a one in column c of xs, and ys has the column settled; or there is none, and ys is xs
-abbrev pub SettledOrNone : Bool → ℕ → ℕ → ℕ → ℕ → List ℕ → List ℕ → Type 0
-SettledOrNone b w r k c xs ys =
-    MatchBool b
-    (((p : ℕ) × ((k ≤ p) × (p < r) × (matrix w xs p c ≡ true))) × Settled r (8 * w) k c (matrix w xs) (matrix w ys))
-    ((ys ≡ xs) × ((i : ℕ) → k ≤ i → i < r → matrix w xs i c ≡ false))
+abbrev pub SettledOrNone : {E : Type 0} → Result (Unit {0}) E → ℕ → ℕ → ℕ → ℕ → List ℕ → List ℕ → Type 0
+SettledOrNone o w r k c xs ys =
+    MatchResult o
+    (λ _. ((p : ℕ) × ((k ≤ p) × (p < r) × (matrix w xs p c ≡ true))) × Settled r (8 * w) k c (matrix w xs) (matrix w ys))
+    (λ _. (ys ≡ xs) × ((i : ℕ) → k ≤ i → i < r → matrix w xs i c ≡ false))

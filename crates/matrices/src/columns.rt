@@ -29,7 +29,7 @@ pub fn add_column(m: &mut [u8], width: usize, col: usize, numbers: &[u16], some:
     requires column { col < 8 * width }
     ensures { ColumnAdded 0 (some * length numbers.now) (8 * width) col (bits_of some numbers.now) (matrix width m.old) (matrix width m.new) }
 {
-    for r in 0..numbers.len() {
-        add_number(m, width, some * r, col, numbers[r], some);
+    for (r, &x) in numbers.iter().enumerate() {
+        add_number(m, width, some * r, col, x, some);
     }
 }

@@ -1,18 +1,22 @@
 // Packed matrices in lent memory, row after row: products with packed vectors, and elimination.
 #![tactic(auto)]
 
-ghost use Rattle.std.specs.Prelude.{◌≡◌, ℕ, ◌+◌, ◌-◌, ◌*◌, ◌/◌, ◌^◌, ◌<◌, ◌≤◌, true, false, length, MatchBool, ◌==◌, ◌≢◌, slice_index};
+ghost use Rattle.std.specs.Prelude.{◌≡◌, ℕ, ◌+◌, ◌-◌, ◌*◌, ◌/◌, ◌^◌, ◌<◌, ◌≤◌, true, false, length, MatchBool, MatchOption, MatchResult, is_ok, ◌==◌, ◌≢◌, slice_index, EachIndex, bit_xor};
 ghost use Rattle.bits.specs.Vectors.{◌⊕◌, dot, times, systematic};
 ghost use Rattle.bits.specs.Packed.{vector, matrix, packed};
 ghost use Rattle.bits.specs.Kernels.{Same, Independent, Dependent, independent, Reduced, Echelon, Ranked};
 ghost use Rattle.bits.specs.Rank.{rank_of};
 ghost use Rattle.bits.specs.Reduced.{reduced_of};
 ghost use Rattle.bits.specs.Elimination.{Added, LowRows, Pivoted, Settled};
-ghost use Rattle.matrices.specs.Rows.{RowWithin, PlaceWithin, Apart, Summed, Copied, ColumnsCopied, SettledOrNone};
+ghost use Rattle.matrices.specs.Rows.{RowWithin, PlaceWithin, PivotAt, Apart, Summed, Copied, ColumnsCopied, SettledOrNone};
 
 pub mod columns;
 
 use std::simd::prelude::*;
+
+// The columns are dependent.
+#[derive(Clone, Copy, Debug, PartialEq, Eq)]
+pub struct DependentColumns;
 
 // The sum of the products of the bits of two vectors.
 fn parity(row: &[u8], v: &[u8]) -> bool
@@ -20,13 +24,14 @@ fn parity(row: &[u8], v: &[u8]) -> bool
     ensures { result ≡ dot (8 * length v.now) (vector row.now) (vector v.now) }
 {
     let mut sum: u8 = 0;
-    for k in 0..v.len() {
-        sum ^= row[k] & v[k];
+    for (x, y) in row.iter().zip(v) {
+        sum ^= x & y;
     }
     sum.count_ones() % 2 == 1
 }
 
-// Adds the product of a matrix, of as many rows as `out` has bits, and a vector to `out`.
+// Adds the product of a matrix, of as many rows as `out` has bits, and a vector to `out`. A row may have
+// no bytes, which `chunks_exact` would not take.
 pub fn add_product(m: &[u8], v: &[u8], out: &mut [u8])
     requires { (8 * length out.old * length v.now ≤ length m.now) × (8 * length out.old < 2 ^ 63) }
     ensures { (i : ℕ) → i < 8 * length out.old → vector out.new i ≡ (vector out.old i ⊕ dot (8 * length v.now) (matrix (length v.now) m.now i) (vector v.now)) }
@@ -57,40 +62,29 @@ pub fn entry(m: &[u8], width: usize, row: usize, col: usize) -> bool
     bits::bit(&m[row * width..], col)
 }
 
-// Adds the `len` bytes from `from` on to those from `into` on, which lie apart.
-fn add_bytes(m: &mut [u8], into: usize, from: usize, len: usize)
-    requires within { (into + len ≤ length m.old) × (from + len ≤ length m.old) }
-    requires apart { Apart len into from }
-    ensures { Summed len into from m.old m.new }
+// Adds bytes to as many others.
+fn add_rest(into: &mut [u8], from: &[u8])
+    requires { length into.old ≡ length from.now }
+    ensures { EachIndex into.new (λ k. slice_index into.new k ≡ bit_xor (slice_index into.old k) (slice_index from.now k)) }
 {
-    for k in 0..len {
-        m[into + k] ^= m[from + k];
+    for (i, x) in into.iter_mut().enumerate() {
+        *x ^= from[i];
     }
 }
 
-// The same sixteen bytes at a time, while there are as many; it gives how many bytes it has added.
-fn add_lanes(m: &mut [u8], into: usize, from: usize, len: usize) -> usize
-    requires within { (into + len ≤ length m.old) × (from + len ≤ length m.old) }
-    requires apart { Apart len into from }
-    ensures { (result ≤ len) × Summed result into from m.old m.new }
+// The same sixteen bytes at a time, while there are as many: byte by byte it takes four times as long.
+fn add_bytes(into: &mut [u8], from: &[u8])
+    requires { length into.old ≡ length from.now }
+    ensures { EachIndex into.new (λ k. slice_index into.new k ≡ bit_xor (slice_index into.old k) (slice_index from.now k)) }
 {
-    let mut k = 0;
-    while len - k >= 16 {
-        let x = u8x16::from_slice(&m[into + k..]) ^ u8x16::from_slice(&m[from + k..]);
-        x.copy_to_slice(&mut m[into + k..]);
-        k += 16;
+    let whole = into.len() / 16;
+    for i in 0..whole {
+        let at = 16 * i;
+        let x = u8x16::from_slice(&into[at..]) ^ u8x16::from_slice(&from[at..]);
+        x.copy_to_slice(&mut into[at..]);
     }
-    k
-}
-
-// The same by both.
-fn add_part(m: &mut [u8], into: usize, from: usize, len: usize)
-    requires within { (into + len ≤ length m.old) × (from + len ≤ length m.old) }
-    requires apart { Apart len into from }
-    ensures { Summed len into from m.old m.new }
-{
-    let k = add_lanes(m, into, from, len);
-    add_bytes(m, into + k, from + k, len - k);
+    let at = 16 * whole;
+    add_rest(&mut into[at..], &from[at..]);
 }
 
 // Adds row `from` to row `into`, another row, where a row has `width` bytes.
@@ -99,30 +93,28 @@ pub fn add_row(m: &mut [u8], width: usize, from: usize, into: usize)
     requires other { from ≢ into }
     ensures { Added (8 * width) from into (matrix width m.old) (matrix width m.new) }
 {
-    add_part(m, into * width, from * width, width);
+    if from < into {
+        let (front, back) = m.split_at_mut(into * width);
+        add_bytes(&mut back[..width], &front[from * width..from * width + width]);
+    } else {
+        let (front, back) = m.split_at_mut(from * width);
+        add_bytes(&mut front[into * width..into * width + width], &back[..width]);
+    }
 }
 
-// The first row from k on that has a one in column c, or `rows`.
-fn pivot(m: &[u8], width: usize, rows: usize, k: usize, c: usize) -> usize
+// The first row from k on that has a one in column c.
+fn pivot(m: &[u8], width: usize, rows: usize, k: usize, c: usize) -> Option<usize>
     requires { PlaceWithin width rows k c m.now }
-    ensures within { (k ≤ result) × (result ≤ rows) }
-    ensures before { (i : ℕ) → k ≤ i → i < result → matrix width m.now i c ≡ false }
-    ensures found { result < rows → matrix width m.now result c ≡ true }
+    ensures { MatchOption result ((i : ℕ) → k ≤ i → i < rows → matrix width m.now i c ≡ false) (λ p. PivotAt width rows k c p m.now) }
 {
-    for i in k..rows {
-        if entry(m, width, i, c) {
-            return i;
-        }
-    }
-    rows
+    (k..rows).find(|&i| entry(m, width, i, c))
 }
 
 // Gets a one into row k of column c, from row p, the first from k on that has one.
 fn set_pivot(m: &mut [u8], width: usize, rows: usize, k: usize, c: usize, p: usize)
-    requires within { (PlaceWithin width rows k c m.old) × ((k ≤ p) × (p < rows)) }
+    requires within { PlaceWithin width rows k c m.old }
     requires low { LowRows rows k c (matrix width m.old) }
-    requires before { (i : ℕ) → k ≤ i → i < p → matrix width m.old i c ≡ false }
-    requires found { matrix width m.old p c ≡ true }
+    requires first { PivotAt width rows k c p m.old }
     ensures { Pivoted rows (8 * width) k c (matrix width m.old) (matrix width m.new) }
 {
     if p != k {
@@ -144,34 +136,30 @@ fn clear_column(m: &mut [u8], width: usize, rows: usize, k: usize, c: usize)
     }
 }
 
-// Makes column c the unit column of row k, and leaves the columns before it; false says that there
-// is no one from row k on.
-pub fn settle(m: &mut [u8], width: usize, rows: usize, k: usize, c: usize) -> bool
+// Makes column c the unit column of row k, and leaves the columns before it. It fails, and changes
+// nothing, if there is no one from row k on.
+pub fn settle(m: &mut [u8], width: usize, rows: usize, k: usize, c: usize) -> Result<(), DependentColumns>
     requires within { PlaceWithin width rows k c m.old }
     requires low { LowRows rows k c (matrix width m.old) }
     ensures { SettledOrNone result width rows k c m.old m.new }
 {
-    let p = pivot(m, width, rows, k, c);
-    if p == rows {
-        return false;
-    }
+    let Some(p) = pivot(m, width, rows, k, c) else {
+        return Err(DependentColumns);
+    };
     set_pivot(m, width, rows, k, c, p);
     clear_column(m, width, rows, k, c);
-    true
+    Ok(())
 }
 
-// The reduced row echelon form [I | M], in place; false says that the first `rows` columns are
-// dependent.
-pub fn reduce(m: &mut [u8], width: usize, rows: usize) -> bool
+// The reduced row echelon form [I | M], in place, unless the first `rows` columns are dependent.
+pub fn reduce(m: &mut [u8], width: usize, rows: usize) -> Result<(), DependentColumns>
     requires { (rows * width ≤ length m.old) × (rows ≤ 8 * width) }
-    ensures { MatchBool result (Reduced rows (8 * width) (matrix width m.old) (matrix width m.new)) (Dependent rows (matrix width m.old)) }
+    ensures { MatchResult result (λ _. Reduced rows (8 * width) (matrix width m.old) (matrix width m.new)) (λ _. Dependent rows (matrix width m.old)) }
 {
     for c in 0..rows {
-        if !settle(m, width, rows, c, c) {
-            return false;
-        }
+        settle(m, width, rows, c, c)?;
     }
-    true
+    Ok(())
 }
 
 // The number of columns that get a pivot: they are no sum of earlier ones.
@@ -181,7 +169,7 @@ fn count_pivots(m: &mut [u8], width: usize, rows: usize) -> usize
 {
     let mut k = 0;
     for c in 0..8 * width {
-        if settle(m, width, rows, k, c) {
+        if settle(m, width, rows, k, c).is_ok() {
             k += 1;
         }
     }
@@ -206,7 +194,7 @@ pub fn usable(m: &mut [u8], front: usize) -> bool
     ensures which { MatchBool result (Independent (8 * front) (matrix front m.old)) (Dependent (8 * front) (matrix front m.old)) }
     ensures decided { result ≡ independent (8 * front) (matrix front m.old) }
 {
-    reduce(m, front, 8 * front)
+    reduce(m, front, 8 * front).is_ok()
 }
 
 // Copies `some` bytes of m from `from` on to those of out from `to` on.
@@ -218,7 +206,7 @@ fn copy_part(m: &[u8], from: usize, out: &mut [u8], to: usize, some: usize)
 }
 
 // Copies the columns from 8 * skip on, 8 * some of them, of each row into a matrix whose rows have
-// `some` bytes.
+// `some` bytes. Rows may have no bytes, which `chunks_exact` would not take.
 pub fn copy_columns(m: &[u8], width: usize, rows: usize, skip: usize, out: &mut [u8], some: usize)
     requires { (rows * width ≤ length m.now) × ((skip + some ≤ width) × (rows * some ≤ length out.old)) }
     ensures { ColumnsCopied width some skip rows m.now out.old out.new }
@@ -229,21 +217,19 @@ pub fn copy_columns(m: &[u8], width: usize, rows: usize, skip: usize, out: &mut 
 }
 
 // The matrix M of the reduced row echelon form [I | M] of a matrix of 8 * front rows of
-// front + back bytes, written to `out`. False says that the first columns are dependent, and leaves
-// `out`. What `hp` holds then is of no use.
-pub fn echelon(hp: &mut [u8], front: usize, back: usize, out: &mut [u8]) -> bool
+// front + back bytes, written to `out`. It fails, and leaves `out`, if the first columns are dependent.
+// What `hp` holds then is of no use.
+pub fn echelon(hp: &mut [u8], front: usize, back: usize, out: &mut [u8]) -> Result<(), DependentColumns>
     requires small { (8 * front < 2 ^ 63) × (front + back < 2 ^ 63) }
     requires within { (8 * front * (front + back) ≤ length hp.old) × (8 * front * back ≤ length out.old) }
-    ensures form { MatchBool result (Echelon (8 * front) (8 * back) (matrix (front + back) hp.old) (matrix back out.new)) (Dependent (8 * front) (matrix (front + back) hp.old) × (out.new ≡ out.old)) }
-    ensures reduced { MatchBool result (Same (8 * front) (8 * back) (reduced_of (8 * front) (matrix (front + back) hp.old)) (matrix back out.new)) (Unit {0}) }
+    ensures form { MatchResult result (λ _. Echelon (8 * front) (8 * back) (matrix (front + back) hp.old) (matrix back out.new)) (λ _. (Dependent (8 * front) (matrix (front + back) hp.old)) × (out.new ≡ out.old)) }
+    ensures reduced { MatchResult result (λ _. Same (8 * front) (8 * back) (reduced_of (8 * front) (matrix (front + back) hp.old)) (matrix back out.new)) (λ _. Unit {0}) }
     ensures rest { (k : ℕ) → 8 * front * back ≤ k → slice_index out.new k ≡ slice_index out.old k }
-    ensures decided { result ≡ independent (8 * front) (matrix (front + back) hp.old) }
+    ensures decided { is_ok result ≡ independent (8 * front) (matrix (front + back) hp.old) }
 {
     let width = front + back;
     let rows = 8 * front;
-    if !reduce(hp, width, rows) {
-        return false;
-    }
+    reduce(hp, width, rows)?;
     copy_columns(hp, width, rows, front, out, back);
-    true
+    Ok(())
 }

@@ -5,6 +5,7 @@ ghost use Rattle.std.specs.Prelude.{◌≡◌, ℕ, ◌+◌, ◌-◌, ◌*◌, �
 ghost use Rattle.levels.specs.Names.{level_of};
 ghost use Rattle.levels.specs.Rows.{answer, work_of};
 ghost use Rattle.levels.specs.Work.{Cleared};
+ghost use Rattle.hashes.specs.Restarted.{Restarted};
 ghost use Rattle.sealing.specs.Calls.{seal_rows, checked_at, accepted, Sealed, SealedAt, lengths_of};
 
 use hashes::Hash;
@@ -13,6 +14,7 @@ use levels::checks::{WorkLengths, check_capacity, check_work};
 use levels::faults::Fault;
 use levels::guards::{BytesGuard, PlacesGuard, Position, PositionsGuard, Work};
 use levels::{Level, Sizes};
+use shuffles::Seed;
 
 // The lengths of the buffers of a seal, in their order.
 #[derive(Clone, Copy)]
@@ -59,24 +61,18 @@ fn check(level: &str, buffers: Lengths, work: WorkLengths, capacity: usize) -> R
 
 // Writes the head for a vector, and leaves the hash as start does.
 pub fn write_head<H: Hash>(hash: &mut H, e: &[u8], head: &mut [u8; 32])
-    requires { 8 + length e.now ≤ H.Hash.capacity hash.old }
-    ensures wrote { head.new ≡ H.Hash.rule hash.old (codes "PALOMAGG" ++ (e.now ++ [])) }
-    ensures fresh { H.Hash.left hash.new ≡ H.Hash.capacity hash.old }
-    ensures ruled { H.Hash.outcome hash.new ≡ H.Hash.rule hash.old }
-    ensures same { H.Hash.rule hash.new ≡ H.Hash.rule hash.old }
-    ensures kept { H.Hash.capacity hash.new ≡ H.Hash.capacity hash.old }
+    requires { 8 + length e.now ≤ H.capacity hash.old }
+    ensures wrote { head.new ≡ H.rule hash.old (codes "PALOMAGG" ++ (e.now ++ [])) }
+    ensures restarted { Restarted H.capacity H.left H.rule H.outcome hash.old hash.new }
 {
     digest(hash, b"PALOMAGG", e, &[], head);
 }
 
 // Writes the key for a vector and a ticket, and leaves the hash as start does.
 pub fn write_key<H: Hash>(hash: &mut H, e: &[u8], ticket: &[u8], key: &mut [u8; 32])
-    requires { 8 + (length e.now + length ticket.now) ≤ H.Hash.capacity hash.old }
-    ensures wrote { key.new ≡ H.Hash.rule hash.old (codes "PALOMAHH" ++ (e.now ++ ticket.now)) }
-    ensures fresh { H.Hash.left hash.new ≡ H.Hash.capacity hash.old }
-    ensures ruled { H.Hash.outcome hash.new ≡ H.Hash.rule hash.old }
-    ensures same { H.Hash.rule hash.new ≡ H.Hash.rule hash.old }
-    ensures kept { H.Hash.capacity hash.new ≡ H.Hash.capacity hash.old }
+    requires { 8 + (length e.now + length ticket.now) ≤ H.capacity hash.old }
+    ensures wrote { key.new ≡ H.rule hash.old (codes "PALOMAHH" ++ (e.now ++ ticket.now)) }
+    ensures restarted { Restarted H.capacity H.left H.rule H.outcome hash.old hash.new }
 {
     digest(hash, b"PALOMAHH", e, ticket, key);
 }
@@ -128,12 +124,9 @@ impl Parts<'_> {
     )
         requires inputs { (length public_key.now ≡ self.old.sizes.public_key) × (length e.now ≡ self.old.sizes.vector) }
         requires output { length ticket.old ≡ self.old.sizes.ticket }
-        requires capacity { self.old.sizes.capacity ≤ H.Hash.capacity hash.old }
-        ensures wrote { Seals self.old.sizes (H.Hash.rule hash.old) (public_matrix self.old.sizes public_key.now) (vector e.now) ticket.new }
-        ensures fresh { H.Hash.left hash.new ≡ H.Hash.capacity hash.old }
-        ensures ruled { H.Hash.outcome hash.new ≡ H.Hash.rule hash.old }
-        ensures same { H.Hash.rule hash.new ≡ H.Hash.rule hash.old }
-        ensures kept { H.Hash.capacity hash.new ≡ H.Hash.capacity hash.old }
+        requires capacity { self.old.sizes.capacity ≤ H.capacity hash.old }
+        ensures wrote { Seals self.old.sizes (H.rule hash.old) (public_matrix self.old.sizes public_key.now) (vector e.now) ticket.new }
+        ensures restarted { Restarted H.capacity H.left H.rule H.outcome hash.old hash.new }
     {
         let mut head = [0; 32];
         write_head(hash, e, &mut head);
@@ -145,21 +138,18 @@ impl Parts<'_> {
     fn seal<H: Hash>(
         &mut self,
         public_key: &[u8],
-        ticket_seed: &[u8],
+        ticket_seed: &Seed,
         ticket: &mut [u8],
         key: &mut [u8],
         hash: &mut H,
         e: &mut [u8],
     )
-        requires inputs { (length public_key.now ≡ self.old.sizes.public_key) × (length ticket_seed.now ≡ 32) }
+        requires input { length public_key.now ≡ self.old.sizes.public_key }
         requires outputs { (length ticket.old ≡ self.old.sizes.ticket) × (length key.old ≡ 32) }
         requires vector { length e.old ≡ self.old.sizes.vector }
-        requires capacity { self.old.sizes.capacity ≤ H.Hash.capacity hash.old }
-        ensures sealed { Sealed self.old.sizes (H.Hash.rule hash.old) public_key.now ticket_seed.now ticket.new key.new }
-        ensures fresh { H.Hash.left hash.new ≡ H.Hash.capacity hash.old }
-        ensures ruled { H.Hash.outcome hash.new ≡ H.Hash.rule hash.old }
-        ensures same { H.Hash.rule hash.new ≡ H.Hash.rule hash.old }
-        ensures kept { H.Hash.capacity hash.new ≡ H.Hash.capacity hash.old }
+        requires capacity { self.old.sizes.capacity ≤ H.capacity hash.old }
+        ensures sealed { Sealed self.old.sizes (H.rule hash.old) public_key.now ticket_seed.now ticket.new key.new }
+        ensures restarted { Restarted H.capacity H.left H.rule H.outcome hash.old hash.new }
     {
         shuffles::error_vector(self.order, self.sizes.t, ticket_seed, e);
         self.write_ticket(public_key, e, hash, ticket);
@@ -173,22 +163,19 @@ impl Parts<'_> {
 fn seal_checked<H: Hash>(
     sizes: &Sizes,
     public_key: &[u8],
-    ticket_seed: &[u8],
+    ticket_seed: &Seed,
     ticket: &mut [u8],
     key: &mut [u8],
     hash: &mut H,
     bytes: &mut [u8],
     positions: &mut [Position],
 )
-    requires inputs { (length public_key.now ≡ sizes.now.public_key) × (length ticket_seed.now ≡ 32) }
+    requires input { length public_key.now ≡ sizes.now.public_key }
     requires outputs { (length ticket.old ≡ sizes.now.ticket) × (length key.old ≡ 32) }
     requires work { (sizes.now.work_bytes ≤ length bytes.old) × (sizes.now.work_places ≤ length positions.old) }
-    requires capacity { sizes.now.capacity ≤ H.Hash.capacity hash.old }
-    ensures sealed { Sealed sizes.now (H.Hash.rule hash.old) public_key.now ticket_seed.now ticket.new key.new }
-    ensures fresh { H.Hash.left hash.new ≡ H.Hash.capacity hash.old }
-    ensures ruled { H.Hash.outcome hash.new ≡ H.Hash.rule hash.old }
-    ensures same { H.Hash.rule hash.new ≡ H.Hash.rule hash.old }
-    ensures kept { H.Hash.capacity hash.new ≡ H.Hash.capacity hash.old }
+    requires capacity { sizes.now.capacity ≤ H.capacity hash.old }
+    ensures sealed { Sealed sizes.now (H.rule hash.old) public_key.now ticket_seed.now ticket.new key.new }
+    ensures restarted { Restarted H.capacity H.left H.rule H.outcome hash.old hash.new }
 {
     let (e, rest) = bytes.split_at_mut(sizes.vector);
     let (permuted, rest) = rest.split_at_mut(sizes.vector);
@@ -211,10 +198,10 @@ fn seal_within<H: Hash>(
     hash: &mut H,
     work: Work<'_>,
 ) -> Result<(), Fault>
-    ensures answer { result ≡ accepted (checked_at (level_of level.now) (lengths_of public_key.now ticket_seed.now ticket.old key.old) (work_of work.entry.bytes.now work.entry.places.now work.entry.positions.now) (H.Hash.capacity hash.old)) }
-    ensures gives { elim result [ Ok _ ↦ SealedAt (level_of level.now) (H.Hash.rule hash.old) public_key.now ticket_seed.now ticket.new key.new × (H.Hash.left hash.new ≡ H.Hash.capacity hash.old) × (H.Hash.outcome hash.new ≡ H.Hash.rule hash.old) | Err _ ↦ (ticket.new ≡ ticket.old) × (key.new ≡ key.old) × (hash.new ≡ hash.old) ] }
-    ensures same { H.Hash.rule hash.new ≡ H.Hash.rule hash.old }
-    ensures kept { H.Hash.capacity hash.new ≡ H.Hash.capacity hash.old }
+    ensures answer { result ≡ accepted (checked_at (level_of level.now) (lengths_of public_key.now ticket_seed.now ticket.old key.old) (work_of work.entry.bytes.now work.entry.places.now work.entry.positions.now) (H.capacity hash.old)) }
+    ensures gives { elim result [ Ok _ ↦ SealedAt (level_of level.now) (H.rule hash.old) public_key.now ticket_seed.now ticket.new key.new × (H.left hash.new ≡ H.capacity hash.old) × (H.outcome hash.new ≡ H.rule hash.old) | Err _ ↦ (ticket.new ≡ ticket.old) × (key.new ≡ key.old) × (hash.new ≡ hash.old) ] }
+    ensures same { H.rule hash.new ≡ H.rule hash.old }
+    ensures kept { H.capacity hash.new ≡ H.capacity hash.old }
 {
     let buffers = Lengths {
         public_key: public_key.len(),
@@ -223,6 +210,9 @@ fn seal_within<H: Hash>(
         key: key.len(),
     };
     let sizes = check(level, buffers, work.lengths(), hash.capacity())?;
+    let Some(ticket_seed) = ticket_seed.as_array() else {
+        unreachable!()
+    };
     let Work {
         bytes, positions, ..
     } = work;
@@ -250,10 +240,10 @@ pub fn seal<H: Hash>(
     hash: &mut H,
     work: Work<'_>,
 ) -> Result<(), Fault>
-    ensures answer { result ≡ accepted (checked_at (level_of level.now) (lengths_of public_key.now ticket_seed.now ticket.old key.old) (work_of work.entry.bytes.now work.entry.places.now work.entry.positions.now) (H.Hash.capacity hash.old)) }
-    ensures gives { elim result [ Ok _ ↦ SealedAt (level_of level.now) (H.Hash.rule hash.old) public_key.now ticket_seed.now ticket.new key.new × (H.Hash.left hash.new ≡ H.Hash.capacity hash.old) × (H.Hash.outcome hash.new ≡ H.Hash.rule hash.old) | Err _ ↦ (ticket.new ≡ ticket.old) × (key.new ≡ key.old) × (hash.new ≡ hash.old) ] }
-    ensures same { H.Hash.rule hash.new ≡ H.Hash.rule hash.old }
-    ensures kept { H.Hash.capacity hash.new ≡ H.Hash.capacity hash.old }
+    ensures answer { result ≡ accepted (checked_at (level_of level.now) (lengths_of public_key.now ticket_seed.now ticket.old key.old) (work_of work.entry.bytes.now work.entry.places.now work.entry.positions.now) (H.capacity hash.old)) }
+    ensures gives { elim result [ Ok _ ↦ SealedAt (level_of level.now) (H.rule hash.old) public_key.now ticket_seed.now ticket.new key.new × (H.left hash.new ≡ H.capacity hash.old) × (H.outcome hash.new ≡ H.rule hash.old) | Err _ ↦ (ticket.new ≡ ticket.old) × (key.new ≡ key.old) × (hash.new ≡ hash.old) ] }
+    ensures same { H.rule hash.new ≡ H.rule hash.old }
+    ensures kept { H.capacity hash.new ≡ H.capacity hash.old }
     ensures bytes { Cleared work.entry.bytes.now work.exit.0.now }
     ensures places { Cleared work.entry.places.now work.exit.1.0.now }
     ensures positions { Cleared work.entry.positions.now work.exit.1.1.0.now }

@@ -2,8 +2,9 @@
 // PermInv, and the error vector of a seed.
 #![tactic(auto)]
 
-ghost use Rattle.std.specs.Prelude.{◌≡◌, ℕ, ◌*◌, ◌^◌, ◌<◌, ◌≤◌, Bool, length, take, count_by};
+ghost use Rattle.std.specs.Prelude.{◌≡◌, ℕ, ◌+◌, ◌*◌, ◌^◌, ◌<◌, ◌≤◌, Bool, map, length, take, count_by};
 ghost use Rattle.std.specs.List.{range_with_len};
+ghost use Rattle.std.proofs.Common.{rules};
 ghost use Rattle.bits.specs.Vectors.{weight};
 ghost use Rattle.bits.specs.Packed.{vector, packed};
 ghost use Rattle.shuffles.specs.Shuffle.{shuffled};
@@ -11,65 +12,88 @@ ghost use Rattle.shuffles.specs.Orders.{order, among, perm, perm_inv, error_vect
 
 use levels::guards::{Place, Position};
 
-// An item that can be shuffled: it carries a number.
-pub trait Numbered {
+// A seed: what a shuffle takes its words from.
+pub type Seed = [u8; 32];
+
+// An item that can be shuffled: it carries a number, below a limit.
+pub trait Numbered: Drop {
     ghost number: { Self → ℕ };
+    ghost limit: { ℕ };
 
     fn number(&self) -> u32
         ensures { result ≡ number self.now };
+
+    // The item with a number.
+    fn numbered(n: usize) -> Self
+        requires { n < limit }
+        ensures { number result ≡ n };
+
+    ghost limited: { limit ≤ 2 ^ 32 };
 }
 
 impl Numbered for Place {
     ghost number = { λ p. p };
+    ghost limit = { 2 ^ 16 };
+    ghost limited = { Prim.search rules };
 
     fn number(&self) -> u32 {
         u32::from(*self)
+    }
+
+    fn numbered(n: usize) -> Self {
+        n as u16
     }
 }
 
 impl Numbered for Position {
     ghost number = { λ p. p };
+    ghost limit = { 2 ^ 32 };
+    ghost limited = { Prim.search rules };
 
     fn number(&self) -> u32 {
         *self
     }
-}
 
-// Shuffles the items by a seed. It keeps each item as often as it came.
-pub fn shuffle<T: Numbered>(items: &mut [T], seed: &[u8])
-    requires { length seed.now ≡ 32 }
-    ensures after { items.new ≡ shuffled seed.now items.old }
-    ensures keeps { (p : T → Bool) → count_by p items.new ≡ count_by p items.old }
-{
-    let mut w = 0;
-    for i in (1..items.len()).rev() {
-        let j = usize::from(bits::word_at(seed, w)) % (i + 1);
-        items.swap(i, j);
-        w = (w + 1) % 16;
+    fn numbered(n: usize) -> Self {
+        n as u32
     }
 }
 
-// Writes each position to its own place.
-fn count_up(positions: &mut [Position])
-    requires { length positions.old < 2 ^ 32 }
-    ensures { positions.new ≡ range_with_len 0 (length positions.old) }
+// Shuffles the items by a seed. It keeps each item as often as it came.
+pub fn shuffle<T: Numbered>(items: &mut [T], seed: &Seed)
+    ensures after { items.new ≡ shuffled seed.now items.old }
+    ensures keeps { (p : T → Bool) → count_by p items.new ≡ count_by p items.old }
 {
-    for i in 0..positions.len() {
-        positions[i] = i as u32;
+    let n = items.len();
+    for i in (1..n).rev() {
+        let w = (n - 1 - i) % 16;
+        let j = usize::from(bits::word_at(seed, w)) % (i + 1);
+        items.swap(i, j);
+    }
+}
+
+// Writes the items with the numbers from one on.
+pub fn count_from<T: Numbered>(first: usize, items: &mut [T])
+    requires { first + length items.old ≤ T.limit }
+    ensures { map T.number items.new ≡ range_with_len first (length items.old) }
+{
+    for (i, x) in items.iter_mut().enumerate() {
+        *x = T::numbered(first + i);
     }
 }
 
 // Writes the order of the positions by a seed, which is a permutation of them.
-pub fn order_by(positions: &mut [Position], seed: &[u8])
-    requires { (length seed.now ≡ 32) × (length positions.old < 2 ^ 32) }
+pub fn order_by(positions: &mut [Position], seed: &Seed)
+    requires { length positions.old < 2 ^ 32 }
     ensures after { positions.new ≡ order (length positions.old) seed.now }
     ensures permutes { Permutation (length positions.old) positions.new }
 {
-    count_up(positions);
+    count_from(0, positions);
     shuffle(positions, seed);
 }
 
-// Entry j of the vector goes to the place that stands at j in the order.
+// Entry j of the vector goes to the place that stands at j in the order. `permute_back` stands by itself:
+// one function for both would need a closure that is longer than the line in which they differ.
 fn permute(order: &[Position], v: &[u8], out: &mut [u8])
     requires long { (length order.now ≡ 8 * length v.now) × (length out.old ≡ length v.now) }
     requires permutes { Permutation (length order.now) order.now }
@@ -77,8 +101,8 @@ fn permute(order: &[Position], v: &[u8], out: &mut [u8])
     ensures undone { SameBits (length order.now) (perm_inv order.now (vector out.new)) (vector v.now) }
 {
     out.fill(0);
-    for j in 0..order.len() {
-        bits::add_bit(out, order[j] as usize, bits::bit(v, j));
+    for (j, &to) in order.iter().enumerate() {
+        bits::add_bit(out, to as usize, bits::bit(v, j));
     }
 }
 
@@ -90,15 +114,14 @@ fn permute_back(order: &[Position], v: &[u8], out: &mut [u8])
     ensures undone { SameBits (length order.now) (perm order.now (vector out.new)) (vector v.now) }
 {
     out.fill(0);
-    for j in 0..order.len() {
-        bits::add_bit(out, j, bits::bit(v, order[j] as usize));
+    for (j, &from) in order.iter().enumerate() {
+        bits::add_bit(out, j, bits::bit(v, from as usize));
     }
 }
 
 // Perm of a vector by a seed: entry j goes to place l_j of the order. PermInv undoes it.
-pub fn perm_by(positions: &mut [Position], seed: &[u8], v: &[u8], out: &mut [u8])
+pub fn perm_by(positions: &mut [Position], seed: &Seed, v: &[u8], out: &mut [u8])
     requires long { (length positions.old ≡ 8 * length v.now) × ((length positions.old < 2 ^ 32) × (length out.old ≡ length v.now)) }
-    requires seed { length seed.now ≡ 32 }
     ensures after { out.new ≡ packed (length out.old) (perm (order (length positions.old) seed.now) (vector v.now)) }
     ensures undone { SameBits (length positions.old) (perm_inv (order (length positions.old) seed.now) (vector out.new)) (vector v.now) }
 {
@@ -107,9 +130,8 @@ pub fn perm_by(positions: &mut [Position], seed: &[u8], v: &[u8], out: &mut [u8]
 }
 
 // PermInv of a vector by a seed: entry l_j of the order goes to place j. Perm undoes it.
-pub fn perm_inv_by(positions: &mut [Position], seed: &[u8], v: &[u8], out: &mut [u8])
+pub fn perm_inv_by(positions: &mut [Position], seed: &Seed, v: &[u8], out: &mut [u8])
     requires long { (length positions.old ≡ 8 * length v.now) × ((length positions.old < 2 ^ 32) × (length out.old ≡ length v.now)) }
-    requires seed { length seed.now ≡ 32 }
     ensures after { out.new ≡ packed (length out.old) (perm_inv (order (length positions.old) seed.now) (vector v.now)) }
     ensures undone { SameBits (length positions.old) (perm (order (length positions.old) seed.now) (vector out.new)) (vector v.now) }
 {
@@ -125,15 +147,14 @@ fn mark(order: &[Position], t: usize, out: &mut [u8])
     ensures weighs { weight (length order.now) (among (take t order.now)) ≡ t }
 {
     out.fill(0);
-    for k in 0..t {
-        bits::add_bit(out, order[k] as usize, true);
+    for &p in &order[..t] {
+        bits::add_bit(out, p as usize, true);
     }
 }
 
 // GenErrVec: writes the error vector of a seed, which has t ones.
-pub fn error_vector(positions: &mut [Position], t: usize, seed: &[u8], out: &mut [u8])
+pub fn error_vector(positions: &mut [Position], t: usize, seed: &Seed, out: &mut [u8])
     requires long { (length positions.old ≡ 8 * length out.old) × ((length positions.old < 2 ^ 32) × (t ≤ length positions.old)) }
-    requires seed { length seed.now ≡ 32 }
     ensures after { out.new ≡ packed (length out.old) (error_vector_of (length positions.old) t seed.now) }
     ensures weighs { weight (length positions.old) (error_vector_of (length positions.old) t seed.now) ≡ t }
 {

@@ -5,3 +5,4 @@ pub mod Numbers
 pub mod Chains
 pub mod Points
 pub mod Sound
+pub mod Searches

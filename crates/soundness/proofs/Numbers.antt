@@ -111,14 +111,14 @@ pub matrix_part : (s : Sizes) (key : List ℕ) → matrix s.body (take (length k
 unfolding matrix_in
 matrix_part s key = ap (matrix s.body) (take_rest key (matrix_from s))
 
-mixing_part : (s : Sizes) (key : List ℕ) → take (mixing_from s + 32 - mixing_from s) (drop (mixing_from s) key) ≡ mixing_in s key
+mixing_part : (s : Sizes) (key : List ℕ) → take 32 (take (length key - mixing_from s) (drop (mixing_from s) key)) ≡ mixing_in s key
 unfolding mixing_in
-mixing_part s key = let e : mixing_from s + 32 - mixing_from s ≡ 32 = omega arith in rw e
+mixing_part s key = ap (take 32) (take_rest key (mixing_from s))
 
 pub order_read :
-    (s : Sizes) (key l : List ℕ) (n : ℕ) → n ≡ s.n → l ≡ order n (take (mixing_from s + 32 - mixing_from s) (drop (mixing_from s) key))
+    (s : Sizes) (key l seed : List ℕ) (n : ℕ) → n ≡ s.n → seed ≡ take 32 (take (length key - mixing_from s) (drop (mixing_from s) key)) → l ≡ order n seed
     → l ≡ order s.n (mixing_in s key)
-order_read s key l n e h = h ∙ rw (e, mixing_part s key)
+order_read s key l seed n e es h = h ∙ rw (e, es, mixing_part s key)
 
 -- rows in which two matrices differ
 module _ (r : ℕ) (M : Matrix) where

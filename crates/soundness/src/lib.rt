@@ -54,16 +54,13 @@ fn check_code<F: BinaryField>(
 {
     read_code::<F>(sizes, key, g, support);
     let size = size::<F>();
-    let at = first_unfit(support, size);
-    if at < sizes.n {
+    if let Some(at) = first_unfit(support, size) {
         return Err(Fault::Unsound(Defect::Support(at)));
     }
-    let at = first_outside(&g[0..sizes.t], size);
-    if at < sizes.t {
+    if let Some(at) = first_outside(&g[0..sizes.t], size) {
         return Err(Fault::Unsound(Defect::Coefficient(at)));
     }
-    let at = first_clash::<F>(g, support, values);
-    if at < sizes.n {
+    if let Some(at) = first_clash::<F>(g, support, values) {
         return Err(Fault::Unsound(Defect::Clash(at)));
     }
     let found = zeros_in_field::<F>(g, values);
@@ -90,10 +87,12 @@ fn check_matrix<F: BinaryField>(
 {
     let from = 2 * sizes.n + 2 * sizes.t;
     let mixing = from + sizes.rows * sizes.body;
-    order_by(positions, &key[mixing..mixing + 32]);
+    let Some(seed) = key[mixing..].first_chunk() else {
+        unreachable!()
+    };
+    order_by(positions, seed);
     write_mixed::<F>(g, support, positions, column, square, sizes.body);
-    let at = first_difference(&key[from..], square, sizes.body, sizes.rows);
-    if at < sizes.rows {
+    if let Some(at) = first_difference(&key[from..], square, sizes.body, sizes.rows) {
         return Err(Fault::Unsound(Defect::Matrix(at)));
     }
     let found = rank(square, sizes.body, sizes.rows);

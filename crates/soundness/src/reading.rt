@@ -1,6 +1,6 @@
 // The places that a key holds, and the tests of them.
 ghost use Rattle.std.specs.Prelude.{◌≡◌, ◌+◌, ◌*◌, ◌≤◌, not, ◌||◌, length, take, nat_lt, slice_index};
-ghost use Rattle.bits.specs.Search.{first_place};
+ghost use Rattle.bits.specs.Search.{Found};
 ghost use Rattle.shuffles.specs.Orders.{among};
 ghost use Rattle.soundness.specs.Parts.{words_from};
 
@@ -11,8 +11,8 @@ pub fn read_words(key: &[u8], from: usize, out: &mut [Place])
     requires { 2 * from + 2 * length out.old ≤ length key.now }
     ensures { out.new ≡ words_from key.now from (length out.old) }
 {
-    for i in 0..out.len() {
-        out[i] = bits::word_at(key, from + i);
+    for (i, x) in out.iter_mut().enumerate() {
+        *x = bits::word_at(key, from + i);
     }
 }
 
@@ -21,32 +21,27 @@ pub fn seen(numbers: &[Place], x: Place) -> bool
     ensures { result ≡ among numbers.now x }
 {
     let mut hit = false;
-    for i in 0..numbers.len() {
-        hit |= numbers[i] == x;
+    for &y in numbers {
+        hit |= y == x;
     }
     hit
 }
 
-// The first entry of a support that is no place or equals an earlier one, or how many there are.
-pub fn first_unfit(support: &[Place], size: usize) -> usize
-    ensures { result ≡ first_place (length support.now) (λ j. not (nat_lt (slice_index support.now j) size) || among (take j support.now) (slice_index support.now j)) }
+// The first entry of a support that is no place or equals an earlier one.
+pub fn first_unfit(support: &[Place], size: usize) -> Option<usize>
+    ensures { Found result (length support.now) (λ j. not (nat_lt (slice_index support.now j) size) || among (take j support.now) (slice_index support.now j)) }
 {
-    for j in 0..support.len() {
-        if usize::from(support[j]) >= size || seen(&support[0..j], support[j]) {
-            return j;
+    for (j, &x) in support.iter().enumerate() {
+        if usize::from(x) >= size || seen(&support[..j], x) {
+            return Some(j);
         }
     }
-    support.len()
+    None
 }
 
-// The first number that is no place, or how many there are.
-pub fn first_outside(numbers: &[Place], size: usize) -> usize
-    ensures { result ≡ first_place (length numbers.now) (λ i. not (nat_lt (slice_index numbers.now i) size)) }
+// The first number that is no place.
+pub fn first_outside(numbers: &[Place], size: usize) -> Option<usize>
+    ensures { Found result (length numbers.now) (λ i. not (nat_lt (slice_index numbers.now i) size)) }
 {
-    for i in 0..numbers.len() {
-        if usize::from(numbers[i]) >= size {
-            return i;
-        }
-    }
-    numbers.len()
+    numbers.iter().position(|&x| usize::from(x) >= size)
 }

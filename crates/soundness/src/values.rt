@@ -1,24 +1,20 @@
 // The zeros of a polynomial: whether one is in the support, and how many there are in the field.
 ghost use Rattle.std.specs.Prelude.{◌≡◌, ℕ, ◌+◌, ◌^◌, ◌<◌, ◌≤◌, length, nat_eq, slice_index};
 ghost use Rattle.bits.specs.Vectors.{weight};
-ghost use Rattle.bits.specs.Search.{first_place};
+ghost use Rattle.bits.specs.Search.{Found};
 ghost use Rattle.keys.specs.Sound.{zero_at};
 
 use fields::field::{BinaryField, Field};
 use goppa::code::size;
 use levels::guards::Place;
 use polys::values::values_at;
+use shuffles::count_from;
 
-// The first zero, or how many numbers there are.
-pub fn first_zero(values: &[Place]) -> usize
-    ensures { result ≡ first_place (length values.now) (λ j. nat_eq (slice_index values.now j) 0) }
+// The first zero.
+pub fn first_zero(values: &[Place]) -> Option<usize>
+    ensures { Found result (length values.now) (λ j. nat_eq (slice_index values.now j) 0) }
 {
-    for j in 0..values.len() {
-        if values[j] == 0 {
-            return j;
-        }
-    }
-    values.len()
+    values.iter().position(|&v| v == 0)
 }
 
 // How many numbers are zero.
@@ -26,26 +22,20 @@ pub fn count_zeros(values: &[Place]) -> usize
     ensures { result ≡ weight (length values.now) (λ j. nat_eq (slice_index values.now j) 0) }
 {
     let mut found = 0;
-    for j in 0..values.len() {
-        found += (values[j] == 0) as usize;
+    for &v in values {
+        found += (v == 0) as usize;
     }
     found
 }
 
-// Writes the numbers from one on.
-fn count_from(first: usize, out: &mut [Place])
-    requires { first + length out.old ≤ 2 ^ 16 }
-    ensures { (i : ℕ) → i < length out.old → slice_index out.new i ≡ first + i }
-{
-    for i in 0..out.len() {
-        out[i] = (first + i) as u16;
-    }
-}
-
-// The first entry of a support that is a zero of g, or how many there are.
-pub fn first_clash<F: BinaryField>(g: &[Place], support: &[Place], values: &mut [Place]) -> usize
+// The first entry of a support that is a zero of g.
+pub fn first_clash<F: BinaryField>(
+    g: &[Place],
+    support: &[Place],
+    values: &mut [Place],
+) -> Option<usize>
     requires { length values.old ≡ length support.now }
-    ensures { result ≡ first_place (length support.now) (λ j. zero_at F.Field.ops F.Field.places g.now (slice_index support.now j)) }
+    ensures { Found result (length support.now) (λ j. zero_at F.Field.ops F.Field.places g.now (slice_index support.now j)) }
 {
     values_at::<F>(values, g, support);
     first_zero(values)
@@ -78,11 +68,7 @@ pub fn zeros_in_field<F: BinaryField>(g: &[Place], work: &mut [Place]) -> usize
     let mut first = 0;
     let mut found = 0;
     while first < size {
-        let some = if size - first < half {
-            size - first
-        } else {
-            half
-        };
+        let some = half.min(size - first);
         found += zeros_from::<F>(g, first, &mut points[0..some], &mut values[0..some]);
         first += some;
     }

@@ -1,5 +1,4 @@
-use Rattle.std.proofs.Common.{◌≡◌, ℕ, ◌*◌, List, get_or, sym, ap, ◌∙◌, arith}
-use lib.Bits.{and_mask}
+use Rattle.std.proofs.Common.{◌≡◌, ℕ, ◌*◌, ◌/◌, ◌%◌, ◌<◌, List, get_or, sym, ap, ◌∙◌, arith}
 use Rattle.std.proofs.lemmas.List.{take_all}
 use Rattle.bits.specs.Words.{word, word_bytes}
 use Rattle.bits.proofs.Words.{no_words, words_more, word_back}
@@ -10,7 +9,12 @@ loop-i-init c = sym no_words
 
 pub loop-i-preserved : goal.loop-i-preserved
 loop-i-preserved c =
-    words_more c.args.words.now c.loop-i.out c.loop-i.i _ (omega arith) (omega arith) (and_mask (get_or c.args.words.now c.loop-i.i 0) 8) c.loop-i.invariant
+    let x = get_or c.args.words.now c.loop-i.i 0 in
+    let bs = c.to_be_bytes.result in
+    let fits : x < 65536 = (c.type_inv.words c.loop-i.i).fits in
+    let high : get_or bs 0 0 ≡ x / 256 = ap (λ (l : List ℕ). get_or l 0 0) c.to_be_bytes.ensures ∙ omega arith in
+    let low : get_or bs 1 0 ≡ x % 256 = ap (λ (l : List ℕ). get_or l 1 0) c.to_be_bytes.ensures ∙ omega arith in
+    rw high (words_more c.args.words.now c.loop-i.out c.loop-i.i (get_or bs 1 0) (omega arith) (omega arith) low c.loop-i.invariant)
 
 pub returns : goal.returns
 returns c =

@@ -1,4 +1,4 @@
-use Rattle.std.proofs.Common.{◌≡◌, Ok, Result, sym, ap, ◌∙◌, subst}
+use Rattle.std.proofs.Common.{◌≡◌, ℕ, List, Ok, Result, sym, ap, ap₂, ◌∙◌, subst}
 use Rattle.levels.specs.declared.Level.{Level}
 use Rattle.levels.specs.declared.checks.WorkLengths.{WorkLengths}
 use Rattle.levels.specs.declared.faults.Fault.{Fault}
@@ -17,7 +17,7 @@ make_at-requires c =
     let e : checked_at (level_of c.args.level.now) b w ≡ Ok c.in_ok-level.level =
     ap (checked_at (level_of c.args.level.now) b) (sym c.lengths.ensures) ∙ (sym c.check.ensures ∙ c.in_ok-level.was) in
     let f = fits (level_of c.args.level.now) c.in_ok-level.level b w e in
-    record { seeds = (f.code, f.decoy); work = (f.bytes, (f.places, f.positions)); keys = (f.public, f.secret) }
+    record { work = (f.bytes, (f.places, f.positions)); keys = (f.public, f.secret) }
 
 pub returns : goal.returns
 returns c =
@@ -25,11 +25,15 @@ returns c =
     let w : WorkLengths = work_of c.args.work.now.bytes.now c.args.work.now.places.now c.args.work.now.positions.now in
     let e : checked_at (level_of c.args.level.now) b w ≡ Ok c.in_ok-level.level =
     ap (checked_at (level_of c.args.level.now) b) (sym c.lengths.ensures) ∙ (sym c.check.ensures ∙ c.in_ok-level.was) in
-    let P : Result Level Fault → Type 0 =
-    λ lv. Given c.make_at.result
-    (MadeAt lv c.args.code_seed.now c.args.mixing_seeds.now c.args.decoy_seed.now c.make_at.new.public_key c.make_at.new.secret_key)
+    let ec = c.in-Some.ensures.cases.same in
+    let ed = c.in-Some-as_array.ensures.cases.same in
+    let P : Result Level Fault → List ℕ → List ℕ → Type 0 =
+    λ lv code decoy. Given c.make_at.result
+    (MadeAt lv code c.args.mixing_seeds.now decoy c.make_at.new.public_key c.make_at.new.secret_key)
     ((c.make_at.new.public_key ≡ c.args.public_key.now) × (c.make_at.new.secret_key ≡ c.args.secret_key.now)) in
     record {
-      answer = c.make_at.ensures.answer ∙ ap (λ x. tried_at x c.args.code_seed.now c.args.mixing_seeds.now) (sym e);
-      gives = subst P (sym (named (level_of c.args.level.now) c.in_ok-level.level b w e)) c.make_at.ensures.gives;
+      answer = c.make_at.ensures.answer ∙ ap₂ (λ x (code : List ℕ). tried_at x code c.args.mixing_seeds.now) (sym e) ec;
+      gives =
+          subst (λ lv. P lv c.args.code_seed.now c.args.decoy_seed.now) (sym (named (level_of c.args.level.now) c.in_ok-level.level b w e))
+          (subst (λ x. P (Ok c.in_ok-level.level) x c.args.decoy_seed.now) ec (subst (P (Ok c.in_ok-level.level) c.in-Some.code_seed.now) ed c.make_at.ensures.gives));
     }

@@ -19,4 +19,4 @@ returns-then-p-k c =
     let l : c.args.k < c.args.p = omega arith in
     pivot_added c.args.rows (8 * c.args.width) c.args.k c.args.c c.args.p (matrix c.args.width c.args.m.now)
     (matrix c.args.width c.add_row.new.m) (omega arith) l (omega arith) c.requires.low
-    (c.requires.before c.args.k (omega arith) l) c.requires.found c.add_row.ensures
+    (c.requires.first.3 c.args.k (omega arith) l) c.requires.first.2 c.add_row.ensures

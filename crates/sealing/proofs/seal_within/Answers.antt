@@ -1,9 +1,9 @@
-use Rattle.std.proofs.Common.{◌≡◌, Ok, sym, ap, ap₂, ◌∙◌}
+use Rattle.std.proofs.Common.{◌≡◌, ℕ, List, Ok, sym, ap, ap₂, subst, ◌∙◌}
 use Rattle.levels.specs.declared.checks.WorkLengths.{WorkLengths}
 use Rattle.levels.specs.Rows.{work_of}
 use Rattle.levels.specs.Names.{level_of}
 use Rattle.sealing.specs.declared.Lengths.{Lengths}
-use Rattle.sealing.specs.Calls.{checked_at, accepted, lengths_of}
+use Rattle.sealing.specs.Calls.{checked_at, accepted, lengths_of, Sealed}
 use Rattle.sealing.proofs.Checks.{fits, sealed_at}
 use Rattle.sealing.proofs.seal_within.Goals as goal
 
@@ -16,7 +16,7 @@ seal_checked-requires g c =
     ap₂ (λ v k. checked_at (level_of c.args.level.now) b v k) (sym c.lengths.ensures) (sym c.capacity.ensures) ∙ (sym c.check.ensures ∙ c.in_ok-sizes.was) in
     let f = fits (level_of c.args.level.now) c.in_ok-sizes.sizes b w n e in
     record {
-      inputs = (f.public, f.seed);
+      input = f.public;
       outputs = (f.ticket, f.key);
       work = (f.bytes, f.positions);
       capacity = f.hash;
@@ -33,10 +33,12 @@ returns g c =
       answer = sym (ap accepted e);
       gives = (
         sealed_at (level_of c.args.level.now) c.in_ok-sizes.sizes b w n (g.H.Hash.rule c.args.hash.now) c.args.public_key.now
-            c.args.ticket_seed.now c.seal_checked.new.ticket c.seal_checked.new.key e c.seal_checked.ensures.sealed,
-        c.seal_checked.ensures.fresh,
-        c.seal_checked.ensures.ruled,
+            c.args.ticket_seed.now c.seal_checked.new.ticket c.seal_checked.new.key e
+            (subst (λ (x : List ℕ). Sealed c.in_ok-sizes.sizes (g.H.Hash.rule c.args.hash.now) c.args.public_key.now x c.seal_checked.new.ticket c.seal_checked.new.key)
+            c.in-Some.ensures.cases.same c.seal_checked.ensures.sealed),
+        c.seal_checked.ensures.restarted.fresh,
+        c.seal_checked.ensures.restarted.ruled,
       );
-      same = c.seal_checked.ensures.same;
-      kept = c.seal_checked.ensures.kept;
+      same = c.seal_checked.ensures.restarted.same;
+      kept = c.seal_checked.ensures.restarted.kept;
     }

@@ -4,6 +4,6 @@ use Rattle.shuffles.specs.Orders.{place_of}
 use Rattle.shuffles.proofs.Orders.{Filled}
 use Rattle.shuffles.proofs.mark.Given as goal
 
-abbrev pub invariant-loop-k : goal.invariant-loop-k
-invariant-loop-k l =
-    Filled (length l.order) (place_of l.order) (λ _. true) l.k l.out × Bytes l.out
+abbrev pub invariant-loop-p : goal.invariant-loop-p
+invariant-loop-p l =
+    Filled (length l.order) (place_of l.order) (λ _. true) l.p-index l.out × Bytes l.out

@@ -1,10 +1,11 @@
-use Rattle.std.proofs.Common.{arith}
+use Rattle.std.proofs.Common.{◌-◌, ◌≤◌, length, take, sym, arith}
+use Rattle.std.proofs.lemmas.List.{length-take-le}
 use Rattle.soundness.proofs.Numbers.{support_number, coefficient_number, clash_number, zeros_number}
 use Rattle.soundness.proofs.Chains.{support_fails, coefficient_fails, clash_fails, zeros_fail, code_passes}
 use Rattle.soundness.proofs.check_code.Goals as goal
 
-pub returns-then-at-sizes : goal.returns-then-at-sizes
-returns-then-at-sizes g c =
+pub returns-in-Some : goal.returns-in-Some
+returns-in-Some g c =
     let s = c.args.sizes.now in
     let key = c.args.key.now in
     let f = g.F.Field.ops in
@@ -13,11 +14,12 @@ returns-then-at-sizes g c =
     let gs = c.read_code.new.g in
     let es = c.read_code.ensures.support in
     let eg = c.read_code.ensures.g in
-    let e₁ = support_number f pl s key sup gs es eg c.size-size.result c.first_unfit-at.result c.size-size.ensures c.first_unfit-at.ensures in
-    record { answer = support_fails f pl s key c.first_unfit-at.result e₁ c.if-at-sizes.true; support = es; g = eg }
+    let at = c.in-Some.at in
+    let h = c.in-Some.ensures in
+    record { answer = support_fails f pl s key at (support_number f pl s key sup gs es eg c.size-size.result at c.size-size.ensures h.1) (omega (arith, h.0)); support = es; g = eg }
 
-pub returns-then-at-sizes-2 : goal.returns-then-at-sizes-2
-returns-then-at-sizes-2 g c =
+pub returns-in-Some-first_outside : goal.returns-in-Some-first_outside
+returns-in-Some-first_outside g c =
     let s = c.args.sizes.now in
     let key = c.args.key.now in
     let f = g.F.Field.ops in
@@ -26,16 +28,16 @@ returns-then-at-sizes-2 g c =
     let gs = c.read_code.new.g in
     let es = c.read_code.ensures.support in
     let eg = c.read_code.ensures.g in
-    let e₁ = support_number f pl s key sup gs es eg c.size-size.result c.first_unfit-at.result c.size-size.ensures c.first_unfit-at.ensures in
-    let e₂ = coefficient_number f pl s key sup gs es eg c.size-size.result c.first_outside-at.result _ c.size-size.ensures (omega arith) c.first_outside-at.ensures in
-    record {
-      answer = coefficient_fails f pl s key c.first_unfit-at.result e₁ c.if-at-sizes.false c.first_outside-at.result e₂ c.if-at-sizes-2.true;
-      support = es;
-      g = eg;
-    }
+    let n₁ = length sup in
+    let e₁ = support_number f pl s key sup gs es eg c.size-size.result n₁ c.size-size.ensures (sym c.in_default.ensures) in
+    let l₁ : s.n ≤ n₁ = omega arith in
+    let at = c.in-Some-first_outside.at in
+    let h = c.in-Some-first_outside.ensures in
+    let e = coefficient_number f pl s key sup gs es eg c.size-size.result at (s.t - 0) c.size-size.ensures (omega arith) h.1 in
+    record { answer = coefficient_fails f pl s key n₁ e₁ l₁ at e (omega (arith, h.0, length-take-le (s.t - 0) gs (omega arith))); support = es; g = eg }
 
-pub returns-then-at-sizes-3 : goal.returns-then-at-sizes-3
-returns-then-at-sizes-3 g c =
+pub returns-in-Some-first_clash : goal.returns-in-Some-first_clash
+returns-in-Some-first_clash g c =
     let s = c.args.sizes.now in
     let key = c.args.key.now in
     let f = g.F.Field.ops in
@@ -44,16 +46,15 @@ returns-then-at-sizes-3 g c =
     let gs = c.read_code.new.g in
     let es = c.read_code.ensures.support in
     let eg = c.read_code.ensures.g in
-    let e₁ = support_number f pl s key sup gs es eg c.size-size.result c.first_unfit-at.result c.size-size.ensures c.first_unfit-at.ensures in
-    let e₂ = coefficient_number f pl s key sup gs es eg c.size-size.result c.first_outside-at.result _ c.size-size.ensures (omega arith) c.first_outside-at.ensures in
-    let e₃ = clash_number f pl s key sup gs es eg c.first_clash-at.result c.first_clash-at.ensures in
-    record {
-      answer =
-          clash_fails f pl s key c.first_unfit-at.result e₁ c.if-at-sizes.false c.first_outside-at.result e₂ c.if-at-sizes-2.false c.first_clash-at.result e₃
-          c.if-at-sizes-3.true;
-      support = es;
-      g = eg;
-    }
+    let n₁ = length sup in
+    let e₁ = support_number f pl s key sup gs es eg c.size-size.result n₁ c.size-size.ensures (sym c.in_default.ensures) in
+    let l₁ : s.n ≤ n₁ = omega arith in
+    let n₂ = length (take (s.t - 0) gs) in
+    let e₂ = coefficient_number f pl s key sup gs es eg c.size-size.result n₂ (s.t - 0) c.size-size.ensures (omega arith) (sym c.in_default-first_outside.ensures) in
+    let l₂ : s.t ≤ n₂ = omega (arith, length-take-le (s.t - 0) gs (omega arith)) in
+    let at = c.in-Some-first_clash.at in
+    let h = c.in-Some-first_clash.ensures in
+    record { answer = clash_fails f pl s key n₁ e₁ l₁ n₂ e₂ l₂ at (clash_number f pl s key sup gs es eg at h.1) (omega (arith, h.0)); support = es; g = eg }
 
 pub returns-then-found-sizes : goal.returns-then-found-sizes
 returns-then-found-sizes g c =
@@ -65,17 +66,17 @@ returns-then-found-sizes g c =
     let gs = c.read_code.new.g in
     let es = c.read_code.ensures.support in
     let eg = c.read_code.ensures.g in
-    let e₁ = support_number f pl s key sup gs es eg c.size-size.result c.first_unfit-at.result c.size-size.ensures c.first_unfit-at.ensures in
-    let e₂ = coefficient_number f pl s key sup gs es eg c.size-size.result c.first_outside-at.result _ c.size-size.ensures (omega arith) c.first_outside-at.ensures in
-    let e₃ = clash_number f pl s key sup gs es eg c.first_clash-at.result c.first_clash-at.ensures in
+    let n₁ = length sup in
+    let e₁ = support_number f pl s key sup gs es eg c.size-size.result n₁ c.size-size.ensures (sym c.in_default.ensures) in
+    let l₁ : s.n ≤ n₁ = omega arith in
+    let n₂ = length (take (s.t - 0) gs) in
+    let e₂ = coefficient_number f pl s key sup gs es eg c.size-size.result n₂ (s.t - 0) c.size-size.ensures (omega arith) (sym c.in_default-first_outside.ensures) in
+    let l₂ : s.t ≤ n₂ = omega (arith, length-take-le (s.t - 0) gs (omega arith)) in
+    let n₃ = length sup in
+    let e₃ = clash_number f pl s key sup gs es eg n₃ (sym c.in_default-first_clash.ensures) in
+    let l₃ : s.n ≤ n₃ = omega arith in
     let e₄ = zeros_number f pl s key sup gs es eg c.zeros_in_field-found.result c.zeros_in_field-found.ensures in
-    record {
-      answer =
-          zeros_fail f pl s key c.first_unfit-at.result e₁ c.if-at-sizes.false c.first_outside-at.result e₂ c.if-at-sizes-2.false c.first_clash-at.result e₃
-          c.if-at-sizes-3.false c.zeros_in_field-found.result e₄ c.if-found-sizes.true;
-      support = es;
-      g = eg;
-    }
+    record { answer = zeros_fail f pl s key n₁ e₁ l₁ n₂ e₂ l₂ n₃ e₃ l₃ c.zeros_in_field-found.result e₄ c.if-found-sizes.true; support = es; g = eg }
 
 pub returns : goal.returns
 returns g c =
@@ -87,14 +88,14 @@ returns g c =
     let gs = c.read_code.new.g in
     let es = c.read_code.ensures.support in
     let eg = c.read_code.ensures.g in
-    let e₁ = support_number f pl s key sup gs es eg c.size-size.result c.first_unfit-at.result c.size-size.ensures c.first_unfit-at.ensures in
-    let e₂ = coefficient_number f pl s key sup gs es eg c.size-size.result c.first_outside-at.result _ c.size-size.ensures (omega arith) c.first_outside-at.ensures in
-    let e₃ = clash_number f pl s key sup gs es eg c.first_clash-at.result c.first_clash-at.ensures in
+    let n₁ = length sup in
+    let e₁ = support_number f pl s key sup gs es eg c.size-size.result n₁ c.size-size.ensures (sym c.in_default.ensures) in
+    let l₁ : s.n ≤ n₁ = omega arith in
+    let n₂ = length (take (s.t - 0) gs) in
+    let e₂ = coefficient_number f pl s key sup gs es eg c.size-size.result n₂ (s.t - 0) c.size-size.ensures (omega arith) (sym c.in_default-first_outside.ensures) in
+    let l₂ : s.t ≤ n₂ = omega (arith, length-take-le (s.t - 0) gs (omega arith)) in
+    let n₃ = length sup in
+    let e₃ = clash_number f pl s key sup gs es eg n₃ (sym c.in_default-first_clash.ensures) in
+    let l₃ : s.n ≤ n₃ = omega arith in
     let e₄ = zeros_number f pl s key sup gs es eg c.zeros_in_field-found.result c.zeros_in_field-found.ensures in
-    record {
-      answer =
-          code_passes f pl s key c.first_unfit-at.result e₁ c.if-at-sizes.false c.first_outside-at.result e₂ c.if-at-sizes-2.false c.first_clash-at.result e₃
-          c.if-at-sizes-3.false c.zeros_in_field-found.result e₄ c.if-found-sizes.false;
-      support = es;
-      g = eg;
-    }
+    record { answer = code_passes f pl s key n₁ e₁ l₁ n₂ e₂ l₂ n₃ e₃ l₃ c.zeros_in_field-found.result e₄ c.if-found-sizes.false; support = es; g = eg }

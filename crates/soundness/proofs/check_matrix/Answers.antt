@@ -1,4 +1,4 @@
-use Rattle.std.proofs.Common.{◌≡◌, ℕ, ◌*◌, ◌<◌, not, eqb, length, refl, ap, ◌∙◌, arith}
+use Rattle.std.proofs.Common.{◌≡◌, ℕ, ◌*◌, ◌<◌, not, eqb, length, sym, refl, ap, ◌∙◌, arith}
 use Rattle.bits.specs.Vectors.{◌⊕◌, Matrix, weight}
 use Rattle.bits.specs.Packed.{matrix}
 use Rattle.bits.specs.Search.{first_place}
@@ -8,8 +8,14 @@ use Rattle.soundness.proofs.Numbers.{mixed_front, matrix_part, order_read, diffe
 use Rattle.soundness.proofs.Chains.{matrix_fails, rank_fails, matrix_passes}
 use Rattle.soundness.proofs.check_matrix.Goals as goal
 
-pub returns-then-at-sizes : goal.returns-then-at-sizes
-returns-then-at-sizes g c =
+pub write_mixed-requires-clause-order : goal.write_mixed-requires-clause-order
+write_mixed-requires-clause-order g c =
+    let h = c.requires.sizes.0 in
+    let p = c.order_by.ensures.permutes in
+    (omega (arith, h.body, h.columns), λ j l. omega (arith, h.body, h.columns, p.below j (omega (arith, h.body, h.columns))))
+
+pub returns-in-Some-first_difference : goal.returns-in-Some-first_difference
+returns-in-Some-first_difference g c =
     let s = c.args.sizes.now in
     let key = c.args.key.now in
     let h = c.requires.sizes.0 in
@@ -17,16 +23,16 @@ returns-then-at-sizes g c =
     let pl = g.F.Field.places in
     let B = matrix s.body c.write_mixed.new.m in
     let HP : Matrix = mixed_in f pl s key in
-    let at = c.first_difference-at.result in
+    let at = c.in-Some-first_difference.at in
     let l : c.order_by.new.positions ≡ order s.n (mixing_in s key) =
-    order_read s key c.order_by.new.positions (length c.args.positions.now) (omega arith) c.order_by.ensures.after in
+    order_read s key c.order_by.new.positions c.in-Some.seed.now (length c.args.positions.now) (omega arith) c.in-Some.ensures.cases.same c.order_by.ensures.after in
     let same : (i j : ℕ) → i < s.rows → j < s.rows → B i j ≡ HP i j =
     mixed_front f pl s key c.args.support.now c.args.g.now c.requires.code.1.0 c.requires.code.0 h g.F.Field.BITS (length c.args.column.now) B c.order_by.new.positions
     (mixing_in s key) c.requires.sizes.1.0 (omega arith) l refl c.write_mixed.ensures in
     let e₁ =
     difference_number s.rows (matrix_in s key) at (8 * s.body) B HP h.body same
-    (c.first_difference-at.ensures ∙ ap (λ (M : Matrix). first_place s.rows (λ i. not (eqb (weight (8 * s.body) (λ j. M i j ⊕ B i j)) 0))) (matrix_part s key)) in
-    matrix_fails f pl s key at e₁ c.if-at-sizes.true
+    (c.in-Some-first_difference.ensures.1 ∙ ap (λ (M : Matrix). first_place s.rows (λ i. not (eqb (weight (8 * s.body) (λ j. M i j ⊕ B i j)) 0))) (matrix_part s key)) in
+    matrix_fails f pl s key at e₁ c.in-Some-first_difference.ensures.0
 
 pub returns-then-found-sizes : goal.returns-then-found-sizes
 returns-then-found-sizes g c =
@@ -37,17 +43,17 @@ returns-then-found-sizes g c =
     let pl = g.F.Field.places in
     let B = matrix s.body c.write_mixed.new.m in
     let HP : Matrix = mixed_in f pl s key in
-    let at = c.first_difference-at.result in
+    let at = s.rows in
     let l : c.order_by.new.positions ≡ order s.n (mixing_in s key) =
-    order_read s key c.order_by.new.positions (length c.args.positions.now) (omega arith) c.order_by.ensures.after in
+    order_read s key c.order_by.new.positions c.in-Some.seed.now (length c.args.positions.now) (omega arith) c.in-Some.ensures.cases.same c.order_by.ensures.after in
     let same : (i j : ℕ) → i < s.rows → j < s.rows → B i j ≡ HP i j =
     mixed_front f pl s key c.args.support.now c.args.g.now c.requires.code.1.0 c.requires.code.0 h g.F.Field.BITS (length c.args.column.now) B c.order_by.new.positions
     (mixing_in s key) c.requires.sizes.1.0 (omega arith) l refl c.write_mixed.ensures in
     let e₁ =
     difference_number s.rows (matrix_in s key) at (8 * s.body) B HP h.body same
-    (c.first_difference-at.ensures ∙ ap (λ (M : Matrix). first_place s.rows (λ i. not (eqb (weight (8 * s.body) (λ j. M i j ⊕ B i j)) 0))) (matrix_part s key)) in
-    let e₂ = rank_number s.rows (matrix_in s key) at c.rank-found.result (8 * s.body) B HP h.body same e₁ c.if-at-sizes.false c.rank-found.ensures.number in
-    rank_fails f pl s key at e₁ c.if-at-sizes.false c.rank-found.result e₂ c.if-found-sizes.true
+    (sym c.in_default-first_difference.ensures ∙ ap (λ (M : Matrix). first_place s.rows (λ i. not (eqb (weight (8 * s.body) (λ j. M i j ⊕ B i j)) 0))) (matrix_part s key)) in
+    let e₂ = rank_number s.rows (matrix_in s key) at c.rank-found.result (8 * s.body) B HP h.body same e₁ (omega arith) c.rank-found.ensures.number in
+    rank_fails f pl s key at e₁ (omega arith) c.rank-found.result e₂ c.if-found-sizes.true
 
 pub returns : goal.returns
 returns g c =
@@ -58,14 +64,14 @@ returns g c =
     let pl = g.F.Field.places in
     let B = matrix s.body c.write_mixed.new.m in
     let HP : Matrix = mixed_in f pl s key in
-    let at = c.first_difference-at.result in
+    let at = s.rows in
     let l : c.order_by.new.positions ≡ order s.n (mixing_in s key) =
-    order_read s key c.order_by.new.positions (length c.args.positions.now) (omega arith) c.order_by.ensures.after in
+    order_read s key c.order_by.new.positions c.in-Some.seed.now (length c.args.positions.now) (omega arith) c.in-Some.ensures.cases.same c.order_by.ensures.after in
     let same : (i j : ℕ) → i < s.rows → j < s.rows → B i j ≡ HP i j =
     mixed_front f pl s key c.args.support.now c.args.g.now c.requires.code.1.0 c.requires.code.0 h g.F.Field.BITS (length c.args.column.now) B c.order_by.new.positions
     (mixing_in s key) c.requires.sizes.1.0 (omega arith) l refl c.write_mixed.ensures in
     let e₁ =
     difference_number s.rows (matrix_in s key) at (8 * s.body) B HP h.body same
-    (c.first_difference-at.ensures ∙ ap (λ (M : Matrix). first_place s.rows (λ i. not (eqb (weight (8 * s.body) (λ j. M i j ⊕ B i j)) 0))) (matrix_part s key)) in
-    let e₂ = rank_number s.rows (matrix_in s key) at c.rank-found.result (8 * s.body) B HP h.body same e₁ c.if-at-sizes.false c.rank-found.ensures.number in
-    matrix_passes f pl s key at e₁ c.if-at-sizes.false c.rank-found.result e₂ c.if-found-sizes.false
+    (sym c.in_default-first_difference.ensures ∙ ap (λ (M : Matrix). first_place s.rows (λ i. not (eqb (weight (8 * s.body) (λ j. M i j ⊕ B i j)) 0))) (matrix_part s key)) in
+    let e₂ = rank_number s.rows (matrix_in s key) at c.rank-found.result (8 * s.body) B HP h.body same e₁ (omega arith) c.rank-found.ensures.number in
+    matrix_passes f pl s key at e₁ (omega arith) c.rank-found.result e₂ c.if-found-sizes.false

@@ -12,6 +12,5 @@ invariant-loop-c g l = PartDone l.rows (8 * l.body) l.c (matrix l.body l.initial
 
 abbrev pub invariant-seeds : goal.invariant-seeds
 invariant-seeds g l =
-    (l.taken ≡ l.count)
-    × ((k : ℕ) → k < l.i
-    → independent (8 * l.body) (mixed_matrix g.F.Field.ops g.F.Field.places (length l.initial.column) l.g l.support (order (length l.initial.positions) (seed_of l.seeds k))) ≡ false)
+    (k : ℕ) → k < l.i
+    → independent (8 * l.body) (mixed_matrix g.F.Field.ops g.F.Field.places (length l.initial.column) l.g l.support (order (length l.initial.positions) (seed_of l.seeds k))) ≡ false

@@ -1,8 +1,8 @@
-use Rattle.std.proofs.Common.{length, ap, ◌∙◌}
-use Rattle.keys.proofs.Steps.{seed_part, seed_length}
+use Rattle.std.proofs.Common.{ℕ, ◌/◌, List, [], get_or, length, ap, ◌∙◌}
+use Rattle.keys.proofs.Steps.{chunk_at}
 use Rattle.keys.proofs.candidates.seed_at.Goals as goal
 
 pub returns : goal.returns
 returns c =
-    let e = seed_part c.args.seeds.now c.args.i in
-    record { is = e; long = ap length e ∙ seed_length c.args.seeds.now c.args.i c.requires }
+    let n = length c.args.seeds.now / 32 in
+    ap (λ (cs : List (List ℕ)). get_or cs c.args.i []) c.as_chunks.ensures.front ∙ chunk_at n c.args.i c.args.seeds.now c.requires

@@ -24,11 +24,9 @@ returns g c =
     let is = c.write_code.ensures in
     record {
       taken =
-          c.first_usable.ensures.is
-          ∙ taken_same g.F.Field.ops g.F.Field.places s c.args.code_seed.now c.args.mixing_seeds.now (8 * s.body) (length c.args.column.now) (length c.args.positions.now)
-          c.write_code.new.g c.support_of-support.result.now
-          (sym c.requires.sizes.0.body) (omega arith) (omega arith) is.g (c.support_of-support.ensures ∙ is.support);
-      within = c.first_usable.ensures.within;
+          taken_same g.F.Field.ops g.F.Field.places s c.args.code_seed.now c.args.mixing_seeds.now c.first_usable.result (8 * s.body) (length c.args.column.now)
+          (length c.args.positions.now) c.write_code.new.g c.support_of-support.result.now
+          (sym c.requires.sizes.0.body) (omega arith) (omega arith) is.g (c.support_of-support.ensures ∙ is.support) c.first_usable.ensures;
       support = is.support;
       g = is.g;
       long = is.long;

@@ -11,12 +11,10 @@ use Rattle.keys.proofs.Pairs.{pair}
 use Rattle.keys.proofs.Steps.{none_usable, one_usable, taken_usable, seed_length, mixed_is, secret_is}
 use Rattle.keys.proofs.making.make_parts.Goals as goal
 
-pub returns-then-taken-mixing_seeds : goal.returns-then-taken-mixing_seeds
-returns-then-taken-mixing_seeds g c =
+pub returns-in_default : goal.returns-in_default
+returns-in_default g c =
     record {
-      answer =
-          none_usable g.F.Field.ops g.F.Field.places c.args.sizes.now c.args.code_seed.now c.args.mixing_seeds.now c.first_seed-taken.result
-          c.first_seed-taken.ensures.taken c.if-taken-mixing_seeds.true;
+      answer = none_usable g.F.Field.ops g.F.Field.places c.args.sizes.now c.args.code_seed.now c.args.mixing_seeds.now c.in_default.ensures.taken;
       gives = (refl, refl);
     }
 
@@ -27,17 +25,17 @@ write_taken-requires g c =
     let seeds = c.args.mixing_seeds.now in
     let f = g.F.Field.ops in
     let pl = g.F.Field.places in
-    let is = c.first_seed-taken.ensures in
+    let is = c.in-Some.ensures in
     let es = c.support_of-support.ensures in
     let ln : length c.support_of-support.result.now ≡ s.n = ap length es ∙ is.long in
-    let HP = mixed_is f pl s code seeds c.first_seed-taken.new.g c.support_of-support.result.now c.first_seed-taken.result is.g (es ∙ is.support) is.taken in
+    let HP = mixed_is f pl s code seeds c.first_seed.new.g c.support_of-support.result.now c.in-Some.taken is.g (es ∙ is.support) is.taken.1 in
     record {
       sizes = c.requires.sizes;
       code = (omega arith, (ln, λ k l. rw es (is.off k (omega arith))));
-      seeds = (omega arith, c.requires.seeds.1);
+      taken = is.taken.0;
       work = (omega arith, (omega arith, omega arith));
       keys = c.requires.keys;
-      usable = ap (independent s.rows) HP ∙ taken_usable f pl s code seeds (omega (arith, is.taken));
+      usable = ap (independent s.rows) HP ∙ taken_usable f pl s code seeds (omega (arith, is.taken.0, is.taken.1));
     }
 
 pub returns : goal.returns
@@ -49,23 +47,23 @@ returns g c =
     let decoy = c.args.decoy_seed.now in
     let f = g.F.Field.ops in
     let pl = g.F.Field.places in
-    let is = c.first_seed-taken.ensures in
-    let taken = c.first_seed-taken.result in
-    let lt : taken < count_of seeds = omega arith in
+    let is = c.in-Some.ensures in
+    let taken = c.in-Some.taken in
+    let lt : taken < count_of seeds = is.taken.0 in
     let es : c.support_of-support.result.now ≡ support_of_seed g.F.Field.BITS s code = c.support_of-support.ensures ∙ is.support in
     let mixing = seed_of seeds (taken_of f pl s code seeds) in
     let HP : Matrix = mixed_of f pl s code mixing in
     let public : c.write_taken.new.public_key ≡ public_key_of s (reduced_of s.rows HP) =
     c.write_taken.ensures.public
-    ∙ ap (λ (B : Matrix). public_key_of s (reduced_of s.rows B)) (mixed_is f pl s code seeds c.first_seed-taken.new.g c.support_of-support.result.now taken is.g es is.taken) in
+    ∙ ap (λ (B : Matrix). public_key_of s (reduced_of s.rows B)) (mixed_is f pl s code seeds c.first_seed.new.g c.support_of-support.result.now taken is.g es is.taken.1) in
     let secret : c.write_taken.new.secret_key ≡ secret_key_of f pl s code mixing decoy =
-    c.write_taken.ensures.secret ∙ secret_is f pl s code seeds c.first_seed-taken.new.g c.support_of-support.result.now taken is.g es is.taken decoy in
+    c.write_taken.ensures.secret ∙ secret_is f pl s code seeds c.first_seed.new.g c.support_of-support.result.now taken is.g es is.taken.1 decoy in
     let P : List ℕ → Type 0 = λ x. Echelon s.rows s.k HP (public_matrix s x) in
-    let form : P c.write_taken.new.public_key = subst P (sym public) (public_echelon s h HP (taken_usable f pl s code seeds (omega (arith, is.taken)))) in
+    let form : P c.write_taken.new.public_key = subst P (sym public) (public_echelon s h HP (taken_usable f pl s code seeds (omega (arith, is.taken.0, is.taken.1)))) in
     record {
-      answer = one_usable f pl s code seeds taken is.taken lt;
+      answer = one_usable f pl s code seeds taken is.taken.1 lt;
       gives =
           pair g.met.F.Field.laws pl g.met.F.Field.origin s code (code_fits g.F.Field.BITS s h (sym c.requires.sizes.1)) h mixing decoy
-          (seed_length seeds (taken_of f pl s code seeds) (omega (arith, is.taken))) c.requires.seeds.1
+          (seed_length seeds (taken_of f pl s code seeds) (omega (arith, is.taken.0, is.taken.1))) c.told-decoy_seed
           c.write_taken.new.public_key c.write_taken.new.secret_key public secret form;
     }

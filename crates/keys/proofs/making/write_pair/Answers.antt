@@ -13,7 +13,6 @@ write_keys-requires g c =
     record {
       sizes = (h, omega arith);
       code = (c.requires.code.1.0, c.requires.code.0);
-      seeds = c.requires.seeds;
       keys = c.requires.keys;
       front = mixed_independent s h (matrix s.vector c.write_hp.new.hp) HP c.write_hp.ensures c.requires.usable;
     }

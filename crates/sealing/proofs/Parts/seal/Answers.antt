@@ -11,8 +11,8 @@ returns g c =
     let seed = c.args.ticket_seed.now in
     let q : length c.args.e.now ≡ s.vector = c.requires.vector in
     let n : length c.args.self.now.order.now ≡ s.n = c.args.self.now.positions in
-    let same : g.H.Hash.rule c.write_ticket.new.hash ≡ rule = c.write_ticket.ensures.same in
-    let kept : g.H.Hash.capacity c.write_ticket.new.hash ≡ g.H.Hash.capacity c.args.hash.now = c.write_ticket.ensures.kept in
+    let same : g.H.Hash.rule c.write_ticket.new.hash ≡ rule = c.write_ticket.ensures.restarted.same in
+    let kept : g.H.Hash.capacity c.write_ticket.new.hash ≡ g.H.Hash.capacity c.args.hash.now = c.write_ticket.ensures.restarted.kept in
     let ticket = c.write_ticket.new.ticket in
     record {
       sealed =
@@ -23,8 +23,10 @@ returns g c =
           (c.copy_from_slice.ensures.after
           ∙ (c.write_key.ensures.wrote
           ∙ ap (λ (r : Rule). r (codes "PALOMAHH" ++ (c.error_vector.new.out ++ ticket))) same));
-      fresh = c.write_key.ensures.fresh ∙ kept;
-      ruled = c.write_key.ensures.ruled ∙ same;
-      same = c.write_key.ensures.same ∙ same;
-      kept = c.write_key.ensures.kept ∙ kept;
+      restarted = record {
+        fresh = c.write_key.ensures.restarted.fresh ∙ kept;
+        ruled = c.write_key.ensures.restarted.ruled ∙ same;
+        same = c.write_key.ensures.restarted.same ∙ same;
+        kept = c.write_key.ensures.restarted.kept ∙ kept;
+      };
     }

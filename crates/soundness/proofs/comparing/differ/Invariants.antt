@@ -1,7 +1,7 @@
-use Rattle.std.proofs.Common.{◌≡◌, ◌*◌, not, eqb}
+use Rattle.std.proofs.Common.{◌≡◌, ◌*◌, not, eqb, length}
 use Rattle.bits.specs.Vectors.{◌⊕◌, weight}
 use Rattle.bits.specs.Packed.{vector}
 use Rattle.soundness.proofs.comparing.differ.Given as goal
 
-abbrev pub invariant-loop-k : goal.invariant-loop-k
-invariant-loop-k l = l.hit ≡ not (eqb (weight (8 * l.k) (λ j. vector l.a j ⊕ vector l.b j)) 0)
+abbrev pub invariant-loop-x : goal.invariant-loop-x
+invariant-loop-x l = l.hit ≡ not (eqb (weight (8 * length l.yielded) (λ j. vector l.a j ⊕ vector l.b j)) 0)

@@ -12,8 +12,8 @@ slice_bounds-differ-end-in-loop-i c = omega (arith, row_before c.args.width c.lo
 
 pub returns-then-differ : goal.returns-then-differ
 returns-then-differ c =
-    sym (first_is _ _ c.loop-i.i (omega arith) c.loop-i.invariant
-    (λ l. sym (row_differs c.args.width c.loop-i.i _ _ c.args.a.now c.args.b.now (omega arith) (omega arith)) ∙ sym c.if-differ.ensures))
+    (omega arith, sym (first_is c.args.rows _ c.loop-i.i (omega arith) c.loop-i.invariant
+    (λ l. sym (row_differs c.args.width c.loop-i.i _ _ c.args.a.now c.args.b.now (omega arith) (omega arith)) ∙ sym c.if-differ.ensures)))
 
 pub loop-i-preserved : goal.loop-i-preserved
 loop-i-preserved c =
@@ -21,4 +21,4 @@ loop-i-preserved c =
     (sym (row_differs c.args.width c.loop-i.i _ _ c.args.a.now c.args.b.now (omega arith) (omega arith)) ∙ sym c.if-differ.ensures)
 
 pub returns : goal.returns
-returns c = sym (first_none _ _ (λ j l. c.loop-i.invariant j (omega arith)))
+returns c = first_none c.args.rows _ (λ j l. c.loop-i.invariant j (omega arith))

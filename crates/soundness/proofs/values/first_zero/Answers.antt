@@ -1,11 +1,12 @@
-use Rattle.std.proofs.Common.{get_or, sym, arith}
-use Rattle.std.proofs.lemmas.Bool.{eq-eqb}
-use Rattle.bits.proofs.Search.{first_is, first_none}
+use Rattle.std.proofs.Common.{ℕ, Bool, eqb, rules}
+use Rattle.std.proofs.lemmas.Iterator.{YieldsList-from_slice}
+use Rattle.std.proofs.lemmas.Iterator.Search.{position_from_yields_List}
+use borrow.Author.Tests.{tests}
+use Rattle.soundness.proofs.Searches.{found_position}
 use Rattle.soundness.proofs.values.first_zero.Goals as goal
 
-pub returns-then-values-j-eq0 : goal.returns-then-values-j-eq0
-returns-then-values-j-eq0 c =
-    sym (first_is _ _ c.loop-j.j (omega arith) c.loop-j.invariant (λ l. eq-eqb (get_or c.args.values.now c.loop-j.j 0) 0 (omega arith)))
-
 pub returns : goal.returns
-returns c = sym (first_none _ _ (λ j l. c.loop-j.invariant j (omega arith)))
+returns c =
+    let test : ℕ → Bool = λ x. eqb x 0 in
+    found_position test c.args.values.now c.position.result
+    (position_from_yields_List test _ _ c.position.result c.position.ensures.ran (YieldsList-from_slice c.args.values.now cc) (λ x b q k. search (rules, tests)))

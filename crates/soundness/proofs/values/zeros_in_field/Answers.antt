@@ -3,7 +3,6 @@ use Rattle.bits.specs.Vectors.{Vector, weight}
 use Rattle.keys.specs.Sound.{zero_at}
 use Rattle.soundness.proofs.Counting.{weight_start, weight_le, weight_split}
 use Rattle.soundness.proofs.values.zeros_in_field.Goals as goal
-use Rattle.soundness.proofs.values.zeros_in_field.Goals.{then-size-first, else-size-first}
 
 pub loop-first-init : goal.loop-first-init
 loop-first-init g c = (omega arith, sym (weight_start (zero_at g.F.Field.ops g.F.Field.places c.args.g.now)))
@@ -11,17 +10,17 @@ loop-first-init g c = (omega arith, sym (weight_start (zero_at g.F.Field.ops g.F
 pub overflow_add-found : goal.overflow_add-found
 overflow_add-found g c =
     let v : Vector = zero_at g.F.Field.ops g.F.Field.places c.args.g.now in
-    let some = c.if-size-first.some in
+    let some = c.min-some.result in
     let first = c.loop-first.first in
-    let le : first + some ≤ c.size-size.result = elim c.if-size-first.branch [ then-size-first w ↦ omega arith | else-size-first w ↦ omega arith ] in
+    let le : first + some ≤ c.size-size.result = omega arith in
     let more : c.zeros_from-found.result ≡ weight some (λ i. v (first + i)) = c.zeros_from-found.ensures ∙ ap (λ n. weight n (λ i. v (first + i))) (omega arith) in
     omega (arith, weight_le first v, weight_le some (λ i. v (first + i)))
 
 pub loop-first-preserved : goal.loop-first-preserved
 loop-first-preserved g c =
     let v : Vector = zero_at g.F.Field.ops g.F.Field.places c.args.g.now in
-    let some = c.if-size-first.some in
+    let some = c.min-some.result in
     let first = c.loop-first.first in
-    let le : first + some ≤ c.size-size.result = elim c.if-size-first.branch [ then-size-first w ↦ omega arith | else-size-first w ↦ omega arith ] in
+    let le : first + some ≤ c.size-size.result = omega arith in
     let more : c.zeros_from-found.result ≡ weight some (λ i. v (first + i)) = c.zeros_from-found.ensures ∙ ap (λ n. weight n (λ i. v (first + i))) (omega arith) in
     (le, ap₂ (λ x y. x + y) c.loop-first.invariant.1 more ∙ sym (weight_split first some v))
