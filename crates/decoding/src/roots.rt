@@ -13,6 +13,14 @@ use fields::read;
 use polys::arithmetic::{add, scale};
 use polys::euclid::euclid;
 
+// The inverse of an element, and zero for zero.
+fn inverse_or_zero<F: BinaryField>(x: F) -> F
+    ensures zero { x ≡ F.Field.ops.zero → result ≡ F.Field.ops.zero }
+    ensures inverse { (x ≢ F.Field.ops.zero) → result ≡ F.Field.ops.inv x }
+{
+    x.inverse().unwrap_or(F::zero())
+}
+
 // Writes the inverse of q, of a lower degree, modulo a polynomial of degree n, to b: where the polynomial has n different zeros, and q is zero at none of them.
 pub fn inverse_modulo<F: BinaryField>(
     modulus: &[u16],
@@ -33,7 +41,7 @@ pub fn inverse_modulo<F: BinaryField>(
     s.copy_from_slice(modulus);
     copy::<F>(q, r);
     euclid::<F>(s, r, a, b, n, 1);
-    let e = read::<F>(r[0]).inverse().unwrap_or(F::zero());
+    let e = inverse_or_zero(read::<F>(r[0]));
     scale(b, e);
 }
 

@@ -1,5 +1,4 @@
-use Rattle.std.proofs.Common.{◌≡◌, ℕ, List, Option, Some, None, MatchOption, sym, ap, ◌∙◌, subst}
-use Rattle.std.specs.Option.{unwrap_or}
+use Rattle.std.proofs.Common.{◌≡◌, ℕ, List, sym, ap, ◌∙◌, subst}
 use Rattle.polys.specs.Coefs.{coefs}
 use Rattle.polys.specs.Values.{value}
 use Rattle.polys.proofs.Lists.{coefs_at}
@@ -7,11 +6,6 @@ use Rattle.patterson.specs.Polys.{Splits}
 use Rattle.decoding.proofs.Values.{value_same}
 use Rattle.decoding.proofs.Inverses.{inverse_under, inverse_value}
 use Rattle.decoding.proofs.roots.inverse_modulo.Goals as goal
-
--- the value of an option that is some, where it is y
-value_of : {X : Type 0} (r : Option X) (z y : X) (P Q : Type 0) → MatchOption r P (λ x. Q × (x ≡ y)) → (P → ⊥) → unwrap_or r z ≡ y
-value_of None z y P Q h never = absurd (never h)
-value_of (Some x) z y P Q h never = h.1
 
 pub returns : goal.returns
 returns g c =
@@ -26,7 +20,7 @@ returns g c =
     let y = c.euclid.new in
     let got = c.euclid.ensures in
     let d = c.euclid.result in
-    let e = c.unwrap_or-e.result in
+    let e = c.inverse_or_zero-e.result in
     let out = c.scale.new.p in
     let same = c.copy_from_slice.ensures.after in
     let is : c.read.result ≡ coefs pl y.r 0 = c.read.ensures ∙ sym (coefs_at k pl y.r 0) in
@@ -35,7 +29,7 @@ returns g c =
       values = λ zs sp some x at.
           ap (f.mul (value f pl out x)) (sym (value_same k pl z r q c.copy.ensures x))
           ∙ inverse_value k pl z n d p r y.s y.r y.a y.b out e got.rule got.last.0 c.scale.ensures.is got.points got.last.1
-          (λ nz. c.unwrap_or-e.ensures ∙ value_of c.inverse.result c.zero.result (f.inv c.read.result) _ _ c.inverse.ensures (λ w. nz (sym is ∙ w)) ∙ ap f.inv is)
+          (λ nz. c.inverse_or_zero-e.ensures.inverse (λ w. nz (sym is ∙ w)) ∙ ap f.inv is)
           zs (subst (λ (l : List ℕ). Splits f n (value f pl l) zs) (sym same) sp) (λ u i w. some u i (sym (value_same k pl z r q c.copy.ensures u) ∙ w))
           x (ap (λ (l : List ℕ). value f pl l x) same ∙ at);
     }
