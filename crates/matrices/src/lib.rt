@@ -95,10 +95,16 @@ pub fn add_row(m: &mut [u8], width: usize, from: usize, into: usize)
 {
     if from < into {
         let (front, back) = m.split_at_mut(into * width);
-        add_bytes(&mut back[..width], &front[from * width..from * width + width]);
+        add_bytes(
+            &mut back[..width],
+            &front[from * width..from * width + width],
+        );
     } else {
         let (front, back) = m.split_at_mut(from * width);
-        add_bytes(&mut front[into * width..into * width + width], &back[..width]);
+        add_bytes(
+            &mut front[into * width..into * width + width],
+            &back[..width],
+        );
     }
 }
 
@@ -138,7 +144,13 @@ fn clear_column(m: &mut [u8], width: usize, rows: usize, k: usize, c: usize)
 
 // Makes column c the unit column of row k, and leaves the columns before it. It fails, and changes
 // nothing, if there is no one from row k on.
-pub fn settle(m: &mut [u8], width: usize, rows: usize, k: usize, c: usize) -> Result<(), DependentColumns>
+pub fn settle(
+    m: &mut [u8],
+    width: usize,
+    rows: usize,
+    k: usize,
+    c: usize,
+) -> Result<(), DependentColumns>
     requires within { PlaceWithin width rows k c m.old }
     requires low { LowRows rows k c (matrix width m.old) }
     ensures { SettledOrNone result width rows k c m.old m.new }
@@ -219,7 +231,12 @@ pub fn copy_columns(m: &[u8], width: usize, rows: usize, skip: usize, out: &mut 
 // The matrix M of the reduced row echelon form [I | M] of a matrix of 8 * front rows of
 // front + back bytes, written to `out`. It fails, and leaves `out`, if the first columns are dependent.
 // What `hp` holds then is of no use.
-pub fn echelon(hp: &mut [u8], front: usize, back: usize, out: &mut [u8]) -> Result<(), DependentColumns>
+pub fn echelon(
+    hp: &mut [u8],
+    front: usize,
+    back: usize,
+    out: &mut [u8],
+) -> Result<(), DependentColumns>
     requires small { (8 * front < 2 ^ 63) × (front + back < 2 ^ 63) }
     requires within { (8 * front * (front + back) ≤ length hp.old) × (8 * front * back ≤ length out.old) }
     ensures form { MatchResult result (λ _. Echelon (8 * front) (8 * back) (matrix (front + back) hp.old) (matrix back out.new)) (λ _. (Dependent (8 * front) (matrix (front + back) hp.old)) × (out.new ≡ out.old)) }

@@ -18,6 +18,7 @@ pub type Seed = [u8; 32];
 // An item that can be shuffled: it carries a number, below a limit.
 pub trait Numbered: Drop {
     ghost number: { Self → ℕ };
+
     ghost limit: { ℕ };
 
     fn number(&self) -> u32
@@ -33,7 +34,9 @@ pub trait Numbered: Drop {
 
 impl Numbered for Place {
     ghost number = { λ p. p };
+
     ghost limit = { 2 ^ 16 };
+
     ghost limited = { Prim.search rules };
 
     fn number(&self) -> u32 {
@@ -47,7 +50,9 @@ impl Numbered for Place {
 
 impl Numbered for Position {
     ghost number = { λ p. p };
+
     ghost limit = { 2 ^ 32 };
+
     ghost limited = { Prim.search rules };
 
     fn number(&self) -> u32 {

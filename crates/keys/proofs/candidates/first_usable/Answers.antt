@@ -33,11 +33,11 @@ seeds-preserved g c =
     c.order_by.ensures.after ∙ rw (ep, es) in
     let is : HP (length c.seeds.column) c.order_by.new.positions ≡ HP (length c.args.column.now) (order (length c.args.positions.now) (seed_of c.args.seeds.now c.seeds.i)) =
     ap₂ HP ec eo in
-      below_more _ _ c.seeds.invariant
-          (front_dependent w (g.F.Field.BITS * length c.seeds.column) xs _ _ (rw ec c.requires.field.1.1) is c.write_mixed.ensures
-          (done_stuck (8 * w) (8 * w) c.loop-c.c (matrix w xs) (matrix w c.loop-c.square) (omega arith) (omega arith) c.loop-c.invariant
-          (when_none w (8 * w) c.loop-c.c c.loop-c.c c.loop-c.square c.settle.new.m c.settle.result c.settle.ensures
-          (c.is_err.ensures.negation ∙ ap not c.if-is_err.true)).1))
+    below_more _ _ c.seeds.invariant
+    (front_dependent w (g.F.Field.BITS * length c.seeds.column) xs _ _ (rw ec c.requires.field.1.1) is c.write_mixed.ensures
+    (done_stuck (8 * w) (8 * w) c.loop-c.c (matrix w xs) (matrix w c.loop-c.square) (omega arith) (omega arith) c.loop-c.invariant
+    (when_none w (8 * w) c.loop-c.c c.loop-c.c c.loop-c.square c.settle.new.m c.settle.result c.settle.ensures
+    (c.is_err.ensures.negation ∙ ap not c.if-is_err.true)).1))
 
 pub returns : goal.returns
 returns g c = first_none _ _ (λ j l. c.seeds.invariant j (omega (arith, c.as_chunks.ensures.front_len)))
@@ -55,8 +55,7 @@ returns-in-seeds g c =
     let eo : c.order_by.new.positions ≡ order (length c.args.positions.now) (seed_of c.args.seeds.now c.seeds.i) =
     c.order_by.ensures.after ∙ rw (ep, es) in
     let is : HP (length c.seeds.column) c.order_by.new.positions ≡ HP (length c.args.column.now) (order (length c.args.positions.now) (seed_of c.args.seeds.now c.seeds.i)) =
-    ap₂ HP ec eo in
-    (
+    ap₂ HP ec eo in (
       omega (arith, c.as_chunks.ensures.front_len),
       sym (first_is _ _ c.seeds.i (omega (arith, c.as_chunks.ensures.front_len)) c.seeds.invariant
           (λ l. front_independent w (g.F.Field.BITS * length c.seeds.column) xs _ _ (rw ec c.requires.field.1.1) is c.write_mixed.ensures

@@ -11,9 +11,11 @@ pub slice_bounds-differ-end-in-loop-i : goal.slice_bounds-differ-end-in-loop-i
 slice_bounds-differ-end-in-loop-i c = omega (arith, row_before c.args.width c.loop-i.i c.args.rows (omega arith))
 
 pub returns-then-differ : goal.returns-then-differ
-returns-then-differ c =
-    (omega arith, sym (first_is c.args.rows _ c.loop-i.i (omega arith) c.loop-i.invariant
-    (λ l. sym (row_differs c.args.width c.loop-i.i _ _ c.args.a.now c.args.b.now (omega arith) (omega arith)) ∙ sym c.if-differ.ensures)))
+returns-then-differ c = (
+  omega arith,
+  sym (first_is c.args.rows _ c.loop-i.i (omega arith) c.loop-i.invariant
+      (λ l. sym (row_differs c.args.width c.loop-i.i _ _ c.args.a.now c.args.b.now (omega arith) (omega arith)) ∙ sym c.if-differ.ensures)),
+)
 
 pub loop-i-preserved : goal.loop-i-preserved
 loop-i-preserved c =
