@@ -1,7 +1,6 @@
 // A pair of keys from seeds, over the field of a level.
 ghost use Rattle.std.specs.Prelude.{◌≡◌, ℕ, ◌+◌, ◌-◌, ◌*◌, ◌^◌, ◌<◌, ◌≤◌, true, [], ◌∷◌, length, Ok, Err, ◌≢◌, slice_index};
 ghost use Rattle.levels.specs.Rows.{answer};
-ghost use Rattle.levels.specs.Table.{Lawful};
 ghost use Rattle.bits.specs.Packed.{matrix};
 ghost use Rattle.bits.specs.Kernels.{independent};
 ghost use Rattle.bits.specs.Reduced.{reduced_of};
@@ -25,7 +24,7 @@ use shuffles::{Seed, order_by};
 // Writes all elements in the order of a code seed, and the polynomial g. No element of the support is a
 // zero of it.
 fn write_code<F: BinaryField>(sizes: &Sizes, seed: &Seed, code: &mut [Place], g: &mut [Place])
-    requires sizes { (Lawful sizes.now) × (F.Field.BITS ≡ sizes.now.m) }
+    requires field { F.Field.BITS ≡ sizes.now.m }
     requires long { (length code.old ≡ 2 ^ F.Field.BITS) × (length g.old ≡ sizes.now.t + 1) }
     ensures support { support sizes.now.n code.new ≡ support_of_seed F.Field.BITS sizes.now seed.now }
     ensures g { g.new ≡ goppa_of F.Field.ops F.Field.places sizes.now seed.now }
@@ -47,7 +46,7 @@ fn first_seed<F: BinaryField>(
     column: &mut [Place],
     positions: &mut [Position],
 ) -> Option<usize>
-    requires sizes { (Lawful sizes.now) × (F.Field.BITS ≡ sizes.now.m) }
+    requires field { F.Field.BITS ≡ sizes.now.m }
     requires code { (length code.old ≡ 2 ^ F.Field.BITS) × ((length g.old ≡ sizes.now.t + 1) × (length column.old ≡ sizes.now.t)) }
     requires work { (length square.old ≡ sizes.now.rows * sizes.now.vector) × (length positions.old ≡ sizes.now.n) }
     ensures taken { Taken result F.Field.ops F.Field.places sizes.now code_seed.now mixing_seeds.now }
@@ -79,7 +78,7 @@ fn write_hp<F: BinaryField>(
     hp: &mut [u8],
     positions: &mut [Position],
 )
-    requires sizes { (Lawful sizes.now) × (F.Field.BITS ≡ sizes.now.m) }
+    requires field { F.Field.BITS ≡ sizes.now.m }
     requires code { (length g.now ≡ sizes.now.t + 1) × ((length support.now ≡ sizes.now.n) × (((k : ℕ) → k < length support.now → value F.Field.ops F.Field.places g.now (F.Field.places.at (slice_index support.now k)) ≢ F.Field.ops.zero))) }
     requires work { (length column.old ≡ sizes.now.t) × ((sizes.now.rows * sizes.now.vector ≤ length hp.old) × (length positions.old ≡ sizes.now.n)) }
     ensures { (i j : ℕ) → i < sizes.now.rows → j < sizes.now.n → matrix sizes.now.vector hp.new i j ≡ mixed_by F.Field.ops F.Field.places sizes.now support.now g.now mixing.now i j }
@@ -101,7 +100,7 @@ fn write_pair<F: BinaryField>(
     public_key: &mut [u8],
     secret_key: &mut [u8],
 )
-    requires sizes { (Lawful sizes.now) × (F.Field.BITS ≡ sizes.now.m) }
+    requires field { F.Field.BITS ≡ sizes.now.m }
     requires code { (length g.now ≡ sizes.now.t + 1) × ((length support.now ≡ sizes.now.n) × (((k : ℕ) → k < length support.now → value F.Field.ops F.Field.places g.now (F.Field.places.at (slice_index support.now k)) ≢ F.Field.ops.zero))) }
     requires work { (length column.old ≡ sizes.now.t) × ((sizes.now.rows * sizes.now.vector ≤ length hp.old) × (length positions.old ≡ sizes.now.n)) }
     requires keys { (length public_key.old ≡ sizes.now.public_key) × (length secret_key.old ≡ sizes.now.secret_key) }
@@ -127,7 +126,7 @@ fn write_taken<F: BinaryField>(
     public_key: &mut [u8],
     secret_key: &mut [u8],
 )
-    requires sizes { (Lawful sizes.now) × (F.Field.BITS ≡ sizes.now.m) }
+    requires field { F.Field.BITS ≡ sizes.now.m }
     requires code { (length g.now ≡ sizes.now.t + 1) × ((length support.now ≡ sizes.now.n) × (((k : ℕ) → k < length support.now → value F.Field.ops F.Field.places g.now (F.Field.places.at (slice_index support.now k)) ≢ F.Field.ops.zero))) }
     requires taken { taken < count_of seeds.now }
     requires work { (length column.old ≡ sizes.now.t) × ((sizes.now.rows * sizes.now.vector ≤ length hp.old) × (length positions.old ≡ sizes.now.n)) }
@@ -156,7 +155,7 @@ fn make_parts<F: BinaryField>(
     column: &mut [Place],
     positions: &mut [Position],
 ) -> Result<(), Fault>
-    requires sizes { (Lawful sizes.now) × (F.Field.BITS ≡ sizes.now.m) }
+    requires field { F.Field.BITS ≡ sizes.now.m }
     requires code { (length code.old ≡ 2 ^ F.Field.BITS) × ((length g.old ≡ sizes.now.t + 1) × (length column.old ≡ sizes.now.t)) }
     requires work { (length hp.old ≡ sizes.now.rows * sizes.now.vector) × (length positions.old ≡ sizes.now.n) }
     requires keys { (length public_key.old ≡ sizes.now.public_key) × (length secret_key.old ≡ sizes.now.secret_key) }
@@ -202,7 +201,7 @@ pub fn make_with<F: BinaryField>(
     secret_key: &mut [u8],
     work: &mut Work<'_>,
 ) -> Result<(), Fault>
-    requires sizes { (Lawful sizes.now) × (F.Field.BITS ≡ sizes.now.m) }
+    requires field { F.Field.BITS ≡ sizes.now.m }
     requires work { (sizes.now.work_bytes ≤ length work.old.bytes.now) × ((sizes.now.work_places ≤ length work.old.places.now) × (sizes.now.work_places ≤ length work.old.positions.now)) }
     requires keys { (length public_key.old ≡ sizes.now.public_key) × (length secret_key.old ≡ sizes.now.secret_key) }
     ensures answer { result ≡ answer (seed_row F.Field.ops F.Field.places sizes.now code_seed.now mixing_seeds.now ∷ []) }

@@ -1,6 +1,5 @@
 // The parts of the keys, written one after the other.
 ghost use Rattle.std.specs.Prelude.{◌≡◌, ℕ, ◌+◌, ◌-◌, ◌*◌, ◌^◌, ◌<◌, ◌≤◌, true, ◌++◌, length};
-ghost use Rattle.levels.specs.Table.{Lawful};
 ghost use Rattle.bits.specs.Packed.{matrix};
 ghost use Rattle.bits.specs.Words.{word_bytes};
 ghost use Rattle.bits.specs.Rows.{matrix_bytes};
@@ -51,7 +50,7 @@ fn write_elements(support: &[Place], g: &[Place], out: &mut [u8])
 
 // Writes the matrix S⁻¹, which stands in front of HP, and the seeds.
 fn write_rest(sizes: &Sizes, hp: &[u8], mixing: &Seed, decoy: &Seed, out: &mut [u8])
-    requires sizes { (Lawful sizes.now) × ((sizes.now.rows * sizes.now.vector ≤ length hp.now) × (length out.old ≡ sizes.now.rows * sizes.now.body + 64)) }
+    requires long { (sizes.now.rows * sizes.now.vector ≤ length hp.now) × (length out.old ≡ sizes.now.rows * sizes.now.body + 64) }
     ensures { out.new ≡ matrix_bytes sizes.now.rows sizes.now.body (matrix sizes.now.vector hp.now) ++ (mixing.now ++ decoy.now) }
 {
     let at = sizes.rows * sizes.body;
@@ -69,7 +68,7 @@ fn write_secret(
     decoy: &Seed,
     out: &mut [u8],
 )
-    requires sizes { (Lawful sizes.now) × ((sizes.now.rows * sizes.now.vector ≤ length hp.now) × (length out.old ≡ sizes.now.secret_key)) }
+    requires long { (sizes.now.rows * sizes.now.vector ≤ length hp.now) × (length out.old ≡ sizes.now.secret_key) }
     requires code { (length support.now ≡ sizes.now.n) × (length g.now ≡ sizes.now.t + 1) }
     ensures { out.new ≡ written sizes.now support.now g.now (matrix sizes.now.vector hp.now) mixing.now decoy.now }
 {
@@ -81,7 +80,7 @@ fn write_secret(
 // Writes M, where [I | M] is the reduced row echelon form of HP, whose first columns are
 // independent. What `hp` holds then is of no use.
 fn write_public(sizes: &Sizes, hp: &mut [u8], out: &mut [u8])
-    requires sizes { (Lawful sizes.now) × ((sizes.now.rows * sizes.now.vector ≤ length hp.old) × (length out.old ≡ sizes.now.public_key)) }
+    requires long { (sizes.now.rows * sizes.now.vector ≤ length hp.old) × (length out.old ≡ sizes.now.public_key) }
     requires front { independent sizes.now.rows (matrix sizes.now.vector hp.old) ≡ true }
     ensures { out.new ≡ matrix_bytes sizes.now.rows (sizes.now.vector - sizes.now.body) (reduced_of sizes.now.rows (matrix sizes.now.vector hp.old)) }
 {
@@ -100,7 +99,7 @@ pub fn write_keys(
     public_key: &mut [u8],
     secret_key: &mut [u8],
 )
-    requires sizes { (Lawful sizes.now) × (sizes.now.rows * sizes.now.vector ≤ length hp.old) }
+    requires hp { sizes.now.rows * sizes.now.vector ≤ length hp.old }
     requires code { (length support.now ≡ sizes.now.n) × (length g.now ≡ sizes.now.t + 1) }
     requires keys { (length public_key.old ≡ sizes.now.public_key) × (length secret_key.old ≡ sizes.now.secret_key) }
     requires front { independent sizes.now.rows (matrix sizes.now.vector hp.old) ≡ true }

@@ -4,7 +4,6 @@
 
 ghost use Rattle.std.specs.Prelude.{◌≡◌, ℕ, ◌+◌, ◌*◌, ◌<◌, ◌≤◌, length, ◌≢◌, slice_index};
 ghost use Rattle.levels.specs.Rows.{answer};
-ghost use Rattle.levels.specs.Table.{Lawful};
 ghost use Rattle.polys.specs.Values.{value};
 ghost use Rattle.keys.specs.Secret.{support_in, goppa_in};
 ghost use Rattle.keys.specs.Sound.{sound_rows};
@@ -28,7 +27,7 @@ use values::{first_clash, zeros_in_field};
 
 // Reads the support and the coefficients of g, which is monic.
 pub fn read_code<F: BinaryField>(sizes: &Sizes, key: &[u8], g: &mut [Place], support: &mut [Place])
-    requires sizes { (Lawful sizes.now) × (length key.now ≡ sizes.now.secret_key) }
+    requires key { length key.now ≡ sizes.now.secret_key }
     requires long { (length g.old ≡ sizes.now.t + 1) × (length support.old ≡ sizes.now.n) }
     ensures support { support.new ≡ support_in sizes.now key.now }
     ensures g { g.new ≡ goppa_in F.Field.ops F.Field.places sizes.now key.now }
@@ -46,7 +45,7 @@ fn check_code<F: BinaryField>(
     support: &mut [Place],
     values: &mut [Place],
 ) -> Result<(), Fault>
-    requires sizes { (Lawful sizes.now) × ((F.Field.BITS ≡ sizes.now.m) × (length key.now ≡ sizes.now.secret_key)) }
+    requires key { (F.Field.BITS ≡ sizes.now.m) × (length key.now ≡ sizes.now.secret_key) }
     requires long { (length g.old ≡ sizes.now.t + 1) × ((length support.old ≡ sizes.now.n) × (length values.old ≡ sizes.now.n)) }
     ensures answer { result ≡ answer (code_rows F.Field.ops F.Field.places sizes.now key.now) }
     ensures support { support.new ≡ support_in sizes.now key.now }
@@ -80,7 +79,7 @@ fn check_matrix<F: BinaryField>(
     square: &mut [u8],
     positions: &mut [Position],
 ) -> Result<(), Fault>
-    requires sizes { (Lawful sizes.now) × ((F.Field.BITS ≡ sizes.now.m) × (length key.now ≡ sizes.now.secret_key)) }
+    requires key { (F.Field.BITS ≡ sizes.now.m) × (length key.now ≡ sizes.now.secret_key) }
     requires code { (g.now ≡ goppa_in F.Field.ops F.Field.places sizes.now key.now) × ((support.now ≡ support_in sizes.now key.now) × (((k : ℕ) → k < length support.now → value F.Field.ops F.Field.places g.now (F.Field.places.at (slice_index support.now k)) ≢ F.Field.ops.zero))) }
     requires long { (length g.now ≡ sizes.now.t + 1) × ((length support.now ≡ sizes.now.n) × ((length column.old ≡ sizes.now.t) × ((sizes.now.rows * sizes.now.body ≤ length square.old) × (length positions.old ≡ sizes.now.n)))) }
     ensures { result ≡ answer (matrix_rows F.Field.ops F.Field.places sizes.now key.now) }
@@ -113,7 +112,7 @@ fn check_parts<F: BinaryField>(
     square: &mut [u8],
     positions: &mut [Position],
 ) -> Result<(), Fault>
-    requires sizes { (Lawful sizes.now) × ((F.Field.BITS ≡ sizes.now.m) × (length key.now ≡ sizes.now.secret_key)) }
+    requires key { (F.Field.BITS ≡ sizes.now.m) × (length key.now ≡ sizes.now.secret_key) }
     requires long { (length g.old ≡ sizes.now.t + 1) × ((length column.old ≡ sizes.now.t) × ((length support.old ≡ sizes.now.n) × (length values.old ≡ sizes.now.n))) }
     requires work { (sizes.now.rows * sizes.now.body ≤ length square.old) × (length positions.old ≡ sizes.now.n) }
     ensures { result ≡ answer (sound_rows F.Field.ops F.Field.places sizes.now key.now) }
@@ -131,7 +130,7 @@ pub fn check_key<F: BinaryField>(
     places: &mut [Place],
     positions: &mut [Position],
 ) -> Result<(), Fault>
-    requires sizes { (Lawful sizes.now) × ((F.Field.BITS ≡ sizes.now.m) × (length key.now ≡ sizes.now.secret_key)) }
+    requires key { (F.Field.BITS ≡ sizes.now.m) × (length key.now ≡ sizes.now.secret_key) }
     requires work { (sizes.now.work_bytes ≤ length bytes.old) × ((sizes.now.work_places ≤ length places.old) × (sizes.now.work_places ≤ length positions.old)) }
     ensures { result ≡ answer (sound_rows F.Field.ops F.Field.places sizes.now key.now) }
 {

@@ -6,11 +6,12 @@ use Rattle.shuffles.specs.Orders.{order}
 use Rattle.keys.specs.Secret.{matrix_in, mixing_in, mixed_in}
 use Rattle.soundness.proofs.Numbers.{mixed_front, matrix_part, order_read, difference_number, rank_number}
 use Rattle.soundness.proofs.Chains.{matrix_fails, rank_fails, matrix_passes}
+use Rattle.levels.proofs.Table.{lawful}
 use Rattle.soundness.proofs.check_matrix.Goals as goal
 
 pub write_mixed-requires-clause-order : goal.write_mixed-requires-clause-order
 write_mixed-requires-clause-order g c =
-    let h = c.requires.sizes.0 in
+    let h = lawful c.args.sizes.now in
     let p = c.order_by.ensures.permutes in
     (omega (arith, h.body, h.columns), λ j l. omega (arith, h.body, h.columns, p.below j (omega (arith, h.body, h.columns))))
 
@@ -18,7 +19,7 @@ pub returns-in-Some-first_difference : goal.returns-in-Some-first_difference
 returns-in-Some-first_difference g c =
     let s = c.args.sizes.now in
     let key = c.args.key.now in
-    let h = c.requires.sizes.0 in
+    let h = lawful c.args.sizes.now in
     let f = g.F.Field.ops in
     let pl = g.F.Field.places in
     let B = matrix s.body c.write_mixed.new.m in
@@ -28,7 +29,7 @@ returns-in-Some-first_difference g c =
     order_read s key c.order_by.new.positions c.in-Some.seed.now (length c.args.positions.now) (omega arith) c.in-Some.ensures.cases.same c.order_by.ensures.after in
     let same : (i j : ℕ) → i < s.rows → j < s.rows → B i j ≡ HP i j =
     mixed_front f pl s key c.args.support.now c.args.g.now c.requires.code.1.0 c.requires.code.0 h g.F.Field.BITS (length c.args.column.now) B c.order_by.new.positions
-    (mixing_in s key) c.requires.sizes.1.0 (omega arith) l refl c.write_mixed.ensures in
+    (mixing_in s key) c.requires.key.0 (omega arith) l refl c.write_mixed.ensures in
     let e₁ =
     difference_number s.rows (matrix_in s key) at (8 * s.body) B HP h.body same
     (c.in-Some-first_difference.ensures.1 ∙ ap (λ (M : Matrix). first_place s.rows (λ i. not (eqb (weight (8 * s.body) (λ j. M i j ⊕ B i j)) 0))) (matrix_part s key)) in
@@ -38,7 +39,7 @@ pub returns-then-found-sizes : goal.returns-then-found-sizes
 returns-then-found-sizes g c =
     let s = c.args.sizes.now in
     let key = c.args.key.now in
-    let h = c.requires.sizes.0 in
+    let h = lawful c.args.sizes.now in
     let f = g.F.Field.ops in
     let pl = g.F.Field.places in
     let B = matrix s.body c.write_mixed.new.m in
@@ -48,7 +49,7 @@ returns-then-found-sizes g c =
     order_read s key c.order_by.new.positions c.in-Some.seed.now (length c.args.positions.now) (omega arith) c.in-Some.ensures.cases.same c.order_by.ensures.after in
     let same : (i j : ℕ) → i < s.rows → j < s.rows → B i j ≡ HP i j =
     mixed_front f pl s key c.args.support.now c.args.g.now c.requires.code.1.0 c.requires.code.0 h g.F.Field.BITS (length c.args.column.now) B c.order_by.new.positions
-    (mixing_in s key) c.requires.sizes.1.0 (omega arith) l refl c.write_mixed.ensures in
+    (mixing_in s key) c.requires.key.0 (omega arith) l refl c.write_mixed.ensures in
     let e₁ =
     difference_number s.rows (matrix_in s key) at (8 * s.body) B HP h.body same
     (sym c.in_default-first_difference.ensures ∙ ap (λ (M : Matrix). first_place s.rows (λ i. not (eqb (weight (8 * s.body) (λ j. M i j ⊕ B i j)) 0))) (matrix_part s key)) in
@@ -59,7 +60,7 @@ pub returns : goal.returns
 returns g c =
     let s = c.args.sizes.now in
     let key = c.args.key.now in
-    let h = c.requires.sizes.0 in
+    let h = lawful c.args.sizes.now in
     let f = g.F.Field.ops in
     let pl = g.F.Field.places in
     let B = matrix s.body c.write_mixed.new.m in
@@ -69,7 +70,7 @@ returns g c =
     order_read s key c.order_by.new.positions c.in-Some.seed.now (length c.args.positions.now) (omega arith) c.in-Some.ensures.cases.same c.order_by.ensures.after in
     let same : (i j : ℕ) → i < s.rows → j < s.rows → B i j ≡ HP i j =
     mixed_front f pl s key c.args.support.now c.args.g.now c.requires.code.1.0 c.requires.code.0 h g.F.Field.BITS (length c.args.column.now) B c.order_by.new.positions
-    (mixing_in s key) c.requires.sizes.1.0 (omega arith) l refl c.write_mixed.ensures in
+    (mixing_in s key) c.requires.key.0 (omega arith) l refl c.write_mixed.ensures in
     let e₁ =
     difference_number s.rows (matrix_in s key) at (8 * s.body) B HP h.body same
     (sym c.in_default-first_difference.ensures ∙ ap (λ (M : Matrix). first_place s.rows (λ i. not (eqb (weight (8 * s.body) (λ j. M i j ⊕ B i j)) 0))) (matrix_part s key)) in

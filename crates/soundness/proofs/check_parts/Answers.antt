@@ -19,7 +19,7 @@ check_matrix-requires g c =
     let eg = c.check_code.ensures.g in
     let e : answer (code_rows f pl s key) ≡ Ok tt = sym c.check_code.ensures.answer ∙ c.in_ok-check_code.was in
     record {
-      sizes = c.requires.sizes;
+      key = c.requires.key;
       code = (eg, (es, λ k l. rw (eg, es) (code_off f pl g.met.F.Field.origin s key e k (omega (arith, ap length es, support_long s key)))));
       long = (omega arith, (omega arith, (omega arith, (omega arith, omega arith))));
     }

@@ -9,6 +9,7 @@ use Rattle.keys.proofs.Forms.{public_echelon}
 use Rattle.keys.proofs.Goppa.{code_fits}
 use Rattle.keys.proofs.Pairs.{pair}
 use Rattle.keys.proofs.Steps.{none_usable, one_usable, taken_usable, seed_length, mixed_is, secret_is}
+use Rattle.levels.proofs.Table.{lawful}
 use Rattle.keys.proofs.making.make_parts.Goals as goal
 
 pub returns-in_default : goal.returns-in_default
@@ -30,7 +31,7 @@ write_taken-requires g c =
     let ln : length c.support_of-support.result.now ≡ s.n = ap length es ∙ is.long in
     let HP = mixed_is f pl s code seeds c.first_seed.new.g c.support_of-support.result.now c.in-Some.taken is.g (es ∙ is.support) is.taken.1 in
     record {
-      sizes = c.requires.sizes;
+      field = c.requires.field;
       code = (omega arith, (ln, λ k l. rw es (is.off k (omega arith))));
       taken = is.taken.0;
       work = (omega arith, (omega arith, omega arith));
@@ -41,7 +42,7 @@ write_taken-requires g c =
 pub returns : goal.returns
 returns g c =
     let s = c.args.sizes.now in
-    let h = c.requires.sizes.0 in
+    let h = lawful c.args.sizes.now in
     let code = c.args.code_seed.now in
     let seeds = c.args.mixing_seeds.now in
     let decoy = c.args.decoy_seed.now in
@@ -63,7 +64,7 @@ returns g c =
     record {
       answer = one_usable f pl s code seeds taken is.taken.1 lt;
       gives =
-          pair g.met.F.Field.laws pl g.met.F.Field.origin s code (code_fits g.F.Field.BITS s h (sym c.requires.sizes.1)) h mixing decoy
+          pair g.met.F.Field.laws pl g.met.F.Field.origin s code (code_fits g.F.Field.BITS s h (sym c.requires.field)) h mixing decoy
           (seed_length seeds (taken_of f pl s code seeds) (omega (arith, is.taken.0, is.taken.1))) c.told-decoy_seed
           c.write_taken.new.public_key c.write_taken.new.secret_key public secret form;
     }
