@@ -58,12 +58,7 @@ fn tell(answer: Result<(), Fault>, report: &mut [u64]) -> u64
 }
 
 // Starts the hash, takes two lists of bytes, and writes what comes.
-fn digest<H: Hash>(
-    hash: &mut H,
-    first: &[u8],
-    second: &[u8],
-    out: &mut [u8],
-) -> Result<(), Fault>
+fn digest<H: Hash>(hash: &mut H, first: &[u8], second: &[u8], out: &mut [u8]) -> Result<(), Fault>
     ensures answer { number_of result ≡ hash_answer (H.capacity hash.old) first.now second.now out.old }
     ensures gives { out.new ≡ hash_after (H.capacity hash.old) (H.rule hash.old) first.now second.now out.old }
 {

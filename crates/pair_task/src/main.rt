@@ -112,7 +112,14 @@ fn make_and_seal(
     };
     tell_pair(rt, &pair)?;
     tell_ticket_seed(rt, ticket_seed)?;
-    match seal(heap, level, sizes, &pair.public_key, ticket_seed, &mut memory) {
+    match seal(
+        heap,
+        level,
+        sizes,
+        &pair.public_key,
+        ticket_seed,
+        &mut memory,
+    ) {
         Ok(sealed) => {
             println!(rt;
                 "Sealed to the public key with SHA3-512. The head hides the vector, the body is for the shop to decode:"

@@ -214,7 +214,9 @@ fn seal_within<H: Hash>(
         unreachable!()
     };
     let Work {
-        bytes, positions, ..
+        bytes,
+        positions,
+        ..
     } = work;
     seal_checked(
         &sizes,

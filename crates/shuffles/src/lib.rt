@@ -15,19 +15,22 @@ use levels::guards::{Place, Position};
 // A seed: what a shuffle takes its words from.
 pub type Seed = [u8; 32];
 
-// An item that can be shuffled: it carries a number, below a limit.
-pub trait Numbered: Drop {
+// An item that can be shuffled: it carries a number.
+pub trait Numbered {
     ghost number: { Self → ℕ };
-
-    ghost limit: { ℕ };
 
     fn number(&self) -> u32
         ensures { result ≡ number self.now };
+}
+
+// An item that a number below a limit makes.
+pub trait Counted: Numbered + Drop {
+    ghost limit: { ℕ };
 
     // The item with a number.
-    fn numbered(n: usize) -> Self
+    fn counted(n: usize) -> Self
         requires { n < limit }
-        ensures { number result ≡ n };
+        ensures { Self.number result ≡ n };
 
     ghost limited: { limit ≤ 2 ^ 32 };
 }
@@ -35,15 +38,17 @@ pub trait Numbered: Drop {
 impl Numbered for Place {
     ghost number = { λ p. p };
 
+    fn number(&self) -> u32 {
+        u32::from(*self)
+    }
+}
+
+impl Counted for Place {
     ghost limit = { 2 ^ 16 };
 
     ghost limited = { Prim.search rules };
 
-    fn number(&self) -> u32 {
-        u32::from(*self)
-    }
-
-    fn numbered(n: usize) -> Self {
+    fn counted(n: usize) -> Self {
         n as u16
     }
 }
@@ -51,15 +56,17 @@ impl Numbered for Place {
 impl Numbered for Position {
     ghost number = { λ p. p };
 
+    fn number(&self) -> u32 {
+        *self
+    }
+}
+
+impl Counted for Position {
     ghost limit = { 2 ^ 32 };
 
     ghost limited = { Prim.search rules };
 
-    fn number(&self) -> u32 {
-        *self
-    }
-
-    fn numbered(n: usize) -> Self {
+    fn counted(n: usize) -> Self {
         n as u32
     }
 }
@@ -78,12 +85,12 @@ pub fn shuffle<T: Numbered>(items: &mut [T], seed: &Seed)
 }
 
 // Writes the items with the numbers from one on.
-pub fn count_from<T: Numbered>(first: usize, items: &mut [T])
+pub fn count_from<T: Counted>(first: usize, items: &mut [T])
     requires { first + length items.old ≤ T.limit }
     ensures { map T.number items.new ≡ range_with_len first (length items.old) }
 {
     for (i, x) in items.iter_mut().enumerate() {
-        *x = T::numbered(first + i);
+        *x = T::counted(first + i);
     }
 }
 

@@ -7,13 +7,13 @@ use Rattle.std.specs.List.{range_with_len}
 use Rattle.shuffles.proofs.count_from.Goals as goal
 
 pub overflow_add-first : goal.overflow_add-first
-overflow_add-first g c = omega (arith, g.met.T.Numbered.limited)
+overflow_add-first g c = omega (arith, g.met.T.Counted.limited)
 
 pub loop-i-preserved : goal.loop-i-preserved
 loop-i-preserved g c =
     let xs = map g.T.Numbered.number c.loop-i.items in
     let n : length xs ≡ length c.loop-i.items = length-map c.loop-i.items g.T.Numbered.number in
-    rw (map-set g.T.Numbered.number c.loop-i.items c.loop-i.i c.numbered.result, c.numbered.ensures)
+    rw (map-set g.T.Numbered.number c.loop-i.items c.loop-i.i c.counted.result, c.counted.ensures)
     (fill_by_more (λ k. c.args.first + k) xs c.loop-i.i 0 (omega (arith, n)) c.loop-i.invariant)
 
 pub returns : goal.returns
