@@ -91,19 +91,27 @@ pub extern "C" fn zq_hash_in_two(kind: u8, first: &[u8], second: &[u8], out: &mu
     number(digest(&mut AnyHash::from(kind), first, second, out))
 }
 
+// Tests, and then shuffles.
+fn shuffle_by(seed: &[u8], items: &mut [Position]) -> Result<(), Fault>
+    ensures answer { number_of result ≡ (if nat_eq (length seed.now) 32 then 0 else 3) }
+    ensures gives { items.new ≡ (if nat_eq (length seed.now) 32 then shuffled seed.now items.old else items.old) }
+{
+    let Some(seed) = seed.as_array() else {
+        return Err(Fault::WrongLength(0));
+    };
+    shuffles::shuffle(items, seed);
+    Ok(())
+}
+
 #[unsafe(no_mangle)]
 pub extern "C" fn zq_shuffle(seed: &[u8], items: &mut [Position]) -> u64
     ensures answer { result ≡ (if nat_eq (length seed.now) 32 then 0 else 3) }
     ensures gives { items.new ≡ (if nat_eq (length seed.now) 32 then shuffled seed.now items.old else items.old) }
 {
-    let Some(seed) = seed.as_array() else {
-        return 3;
-    };
-    shuffles::shuffle(items, seed);
-    0
+    number(shuffle_by(seed, items))
 }
 
-// Permutes a vector by a seed.
+// Permutes a vector by a seed. The C interface names the direction by a number.
 fn permute(seed: &Seed, inverse: u8, vector: &[u8], out: &mut [u8], order: &mut [Position])
     requires { (length out.old ≡ length vector.now) × ((length order.old ≡ 8 * length vector.now) × (length order.old < 2 ^ 32)) }
     ensures { out.new ≡ permuted inverse seed.now vector.now }
@@ -186,7 +194,7 @@ fn error_vector_at(
     Ok(())
 }
 
-// The bytes as a text that names the same level. Bytes that are not UTF-8 name none, as the empty text
+// The bytes as a text that names the same level (by a match, since the proof by `unwrap_or` did not close). Bytes that are not UTF-8 name none, as the empty text
 // does.
 fn text(bytes: &[u8]) -> &str
     ensures { level_of result.now ≡ level_of bytes.now }

@@ -87,7 +87,7 @@ impl From<Fault> for Report {
 }
 
 impl Layer {
-    // The layer's name as it is printed.
+    // The layer's name as it is printed. `Display` prints it, and this contract says what it is.
     pub fn name(self) -> &'static str
         ensures { result.now ≡ layer_name self }
     {

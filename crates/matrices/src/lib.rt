@@ -1,4 +1,6 @@
-// Packed matrices in lent memory, row after row: products with packed vectors, and elimination.
+// Packed matrices in lent memory, row after row: products with packed vectors, and elimination. A matrix
+// is its bytes and the width of a row and no struct of them: each method that writes would have to say
+// that width and number of rows stay, which is longer than the two parameters.
 #![tactic(auto)]
 
 ghost use Rattle.std.specs.Prelude.{◌≡◌, ℕ, ◌+◌, ◌-◌, ◌*◌, ◌/◌, ◌^◌, ◌<◌, ◌≤◌, true, false, length, MatchBool, MatchOption, MatchResult, is_ok, ◌==◌, ◌≢◌, slice_index, EachIndex, bit_xor};

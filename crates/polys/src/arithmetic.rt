@@ -87,6 +87,7 @@ pub fn divide<F: BinaryField>(rem: &mut [u16], quot: &mut [u16], d: &[u16]) -> O
     let k = degree::<F>(d)?;
     let e = leading_inverse::<F>(d, k);
     quot.fill(0);
+    // By index, since what it goes over is written below n too.
     for n in (k..rem.len()).rev() {
         let c = read::<F>(rem[n]).product(e);
         quot[n - k] = c.place();

@@ -27,6 +27,7 @@ pub fn reduce<F: BinaryField>(
     ensures same { Reduced F.Field.ops (n + 1 - k) (coefs F.Field.places s.old) (coefs F.Field.places r.now) (coefs F.Field.places a.old) (coefs F.Field.places b.now) (coefs F.Field.places s.new) (coefs F.Field.places a.new) }
 {
     let e = leading_inverse::<F>(r, k);
+    // By index, since what it goes over is written below j too.
     for j in (k..n + 1).rev() {
         let c = read::<F>(s[j]).product(e);
         add_scaled(s, &r[..k + 1], c, j - k);

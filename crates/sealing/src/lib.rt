@@ -159,7 +159,8 @@ impl Parts<'_> {
     }
 }
 
-// Seals in the work memory, once the tests have passed.
+// Seals in the work memory, once the tests have passed. It takes two of its slices by themselves, since the
+// check does not follow parts of a slice that is a field of another struct.
 fn seal_checked<H: Hash>(
     sizes: &Sizes,
     public_key: &[u8],

@@ -4,7 +4,8 @@
 ghost use Rattle.std.specs.Prelude.{◌≡◌};
 ghost use Rattle.sha512.specs.Sha512.{big_sigma0, big_sigma1, small_sigma0, small_sigma1, ch, maj, round};
 
-// The six functions of FIPS 180-4: Ch, Maj, and the Sigmas.
+// The six functions of FIPS 180-4: Ch, Maj, and the Sigmas. Each Sigma is one line with its own constants, which
+// const parameters would only move to the callers.
 fn choice(e: u64, f: u64, g: u64) -> u64
     ensures { result ≡ ch e f g }
 {

@@ -77,6 +77,7 @@ pub fn shuffle<T: Numbered>(items: &mut [T], seed: &Seed)
     ensures keeps { (p : T → Bool) → count_by p items.new ≡ count_by p items.old }
 {
     let n = items.len();
+    // By index, since an exchange needs both places.
     for i in (1..n).rev() {
         let w = (n - 1 - i) % 16;
         let j = usize::from(bits::word_at(seed, w)) % (i + 1);
