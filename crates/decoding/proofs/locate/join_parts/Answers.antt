@@ -24,5 +24,5 @@ returns g c =
     λ x.
     c.join_squares.ensures x
     ∙ ap₂ (λ y w. f.add (f.mul y y) (f.mul x (f.mul w w)))
-    (value_times k pl z c.product.new.out c.args.a.now c.args.g2.now c.product.ensures.is x)
-    (value_times k pl z c.product-2.new.out c.args.b.now c.args.g1.now c.product-2.ensures.is x)
+    (value_times k pl z c.product.new.out c.args.a.now c.args.by.now.g2.now c.product.ensures.is x)
+    (value_times k pl z c.product-2.new.out c.args.b.now c.args.by.now.g1.now c.product-2.ensures.is x)

@@ -1,4 +1,4 @@
-use Rattle.std.proofs.Common.{ℕ, List, subst}
+use Rattle.std.proofs.Common.{rules, ℕ, List, subst}
 use Rattle.polys.specs.Values.{value}
 use Rattle.patterson.specs.Euclid.{EuclidState}
 use Rattle.decoding.proofs.States.{state_of}
@@ -10,7 +10,7 @@ returns g c =
     let f = g.F.Field.ops in
     let pl = g.F.Field.places in
     let z = g.met.F.Field.origin in
-    let n = c.args.n in
+    let n = c.args.modulus.now.n in
     let p = c.copy_from_slice.new.self in
     let q = c.copy_from_slice-2.new.self in
     let x = c.euclid.new in
@@ -24,4 +24,5 @@ returns g c =
           (subst (λ (l : List ℕ). EuclidState f n (v p) (v l) d (v x.s) (v x.r) (v x.a) (v x.b)) c.copy_from_slice-2.ensures.after st);
       low = (got.last.1, got.rule.short_b);
       high = (got.last.0, got.rule.within);
+      kept = search rules;
     }

@@ -1,4 +1,4 @@
-use Rattle.std.proofs.Common.{◌+◌, sym, ap, ◌∙◌, arith, rules}
+use Rattle.std.proofs.Common.{◌+◌, ap, ◌∙◌, arith, rules}
 use Rattle.algebra.specs.Series.{Degree}
 use Rattle.polys.specs.Coefs.{coefs}
 use Rattle.polys.specs.Values.{value}
@@ -14,8 +14,6 @@ common_divisor-n1-requires g c =
     let z = g.met.F.Field.origin in
     record {
       fits = search rules;
-      work = search rules;
-      degree = (λ e. k.one_zero (sym c.requires.code.1.1 ∙ e), λ j h. below_list k pl z c.args.g.now j (omega arith));
       under = λ j h. below_list k pl z c.args.s.now j (omega arith);
     }
 
@@ -26,8 +24,6 @@ common_divisor-n2-requires g c =
     let z = g.met.F.Field.origin in
     record {
       fits = search rules;
-      work = search rules;
-      degree = (λ e. k.one_zero (sym c.requires.code.1.1 ∙ e), λ j h. below_list k pl z c.args.g.now j (omega arith));
       under = c.shifted_syndrome.ensures.under;
     }
 
@@ -47,30 +43,33 @@ returns g c =
     let f = g.F.Field.ops in
     let pl = g.F.Field.places in
     let z = g.met.F.Field.origin in
-    let t = c.args.t in
+    let t = c.args.g.now.n in
     let n1 = c.common_divisor-n1.result in
     let n2 = c.common_divisor-n2.result in
-    let G = c.args.g.now in
+    let G = c.args.g.now.p.now in
     let g1 = c.common_divisor-n1.new.out in
     let g2 = c.common_divisor-n2.new.out in
-    let top : Degree f t (coefs pl G) = (λ e. k.one_zero (sym c.requires.code.1.1 ∙ e), λ j h. below_list k pl z G j (omega arith)) in
+    let top : Degree f t (coefs pl G) = c.args.g.now.degree in
     record {
-      prepared = λ zs zeros. record {
-        v_is = λ x i. c.shifted_syndrome.ensures.values x (zeros x i);
-        s_divisor = c.common_divisor-n1.ensures.divisor zs zeros;
-        v_divisor = c.common_divisor-n2.ensures.divisor zs zeros;
-        s_rest = value f pl c.quotient.new.rest;
-        s_rest_poly = poly_of k pl z c.quotient.new.rest n1 c.quotient.ensures.rest;
-        s_division = c.quotient.ensures.values;
-        v_rest = value f pl c.quotient-2.new.rest;
-        v_rest_poly = poly_of k pl z c.quotient-2.new.rest n2 c.quotient-2.ensures.rest;
-        v_division = c.quotient-2.ensures.values;
-        g_rest = value f pl c.quotient-3.new.rest;
-        g_rest_poly = poly_of k pl z c.quotient-3.new.rest (n1 + n2) c.quotient-3.ensures.rest;
-        g_division = λ x. c.quotient-3.ensures.values x
-            ∙ ap (λ y. f.add (f.mul (value f pl c.quotient-3.new.out x) y) (value f pl c.quotient-3.new.rest x)) (value_times k pl z c.product.new.out g1 g2 c.product.ensures.is x);
+      ready = record {
+        prepared = λ zs zeros. record {
+          v_is = λ x i. c.shifted_syndrome.ensures.values x (zeros x i);
+          s_divisor = c.common_divisor-n1.ensures.divisor zs zeros;
+          v_divisor = c.common_divisor-n2.ensures.divisor zs zeros;
+          s_rest = value f pl c.quotient.new.rest;
+          s_rest_poly = poly_of k pl z c.quotient.new.rest n1 c.quotient.ensures.rest;
+          s_division = c.quotient.ensures.values;
+          v_rest = value f pl c.quotient-2.new.rest;
+          v_rest_poly = poly_of k pl z c.quotient-2.new.rest n2 c.quotient-2.ensures.rest;
+          v_division = c.quotient-2.ensures.values;
+          g_rest = value f pl c.quotient-3.new.rest;
+          g_rest_poly = poly_of k pl z c.quotient-3.new.rest (n1 + n2) c.quotient-3.ensures.rest;
+          g_division = λ x. c.quotient-3.ensures.values x
+              ∙ ap (λ y. f.add (f.mul (value f pl c.quotient-3.new.out x) y) (value f pl c.quotient-3.new.rest x)) (value_times k pl z c.product.new.out g1 g2 c.product.ensures.is x);
+        };
+        degree_1 = c.common_divisor-n1.ensures.degree.1;
+        degree_2 = c.common_divisor-n2.ensures.degree.1;
+        degree_rest = λ le. c.quotient-3.ensures.degree t top le;
       };
-      degree_1 = c.common_divisor-n1.ensures.degree.1;
-      degree_2 = c.common_divisor-n2.ensures.degree.1;
-      degree_rest = λ le. c.quotient-3.ensures.degree t top le;
+      kept = search rules;
     }
