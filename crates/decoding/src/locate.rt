@@ -11,7 +11,7 @@ ghost use Rattle.patterson.specs.Euclid.{EuclidState};
 ghost use Rattle.patterson.specs.Decoder.{candidate};
 ghost use Rattle.decoding.specs.Stages.{Ready, Locates, NoErrors};
 
-use crate::memory::{Halves, Rows, Wide};
+use crate::memory::{Roots, Rows, Wide};
 use crate::steps::{Modulus, quotient, shifted_syndrome};
 use fields::field::{BinaryField, Field};
 use fields::read;
@@ -19,86 +19,96 @@ use polys::arithmetic::product;
 use polys::euclid::euclid;
 use std::marker::PhantomData;
 
-// The common divisors g1 of g and s and g2 of g and v, and s by g1 and v by g2.
+// What follows from g and s: v = 1 + X·s modulo g, the common divisors g1 of g and s and g2 of g and v, and s by g1, v by g2 and g by g1·g2.
 #[derive(Drop)]
 struct Divided<'a> {
+    v: &'a mut [u16],
     g1: &'a mut [u16],
     g2: &'a mut [u16],
     s1: &'a mut [u16],
     v2: &'a mut [u16],
-    ghost second: { length g2.now ≡ length g1.now },
-    ghost of_s: { length s1.now ≡ length g1.now },
-    ghost of_v: { length v2.now ≡ length g1.now },
+    g12: &'a mut [u16],
+    ghost first: { length g1.now ≡ length v.now },
+    ghost second: { length g2.now ≡ length v.now },
+    ghost of_s: { length s1.now ≡ length v.now },
+    ghost of_v: { length v2.now ≡ length v.now },
+    ghost of_g: { length g12.now ≡ length v.now },
 }
 
-// Writes v = 1 + X·s modulo g, and what follows from g, s and v. The results are the degrees of g1 and g2.
+impl Divided<'_> {
+    // g12, of degree n, as a modulus.
+    fn modulus<F: BinaryField>(&self, n: usize) -> Modulus<'_, F>
+        requires { (n < length self.now.g12.now) × (Degree F.Field.ops n (coefs F.Field.places self.now.g12.now)) }
+        ensures { (result.p.now ≡ self.now.g12.now) × (result.n ≡ n) }
+    {
+        Modulus {
+            p: self.g12,
+            n,
+            of: PhantomData,
+        }
+    }
+}
+
+// Writes what follows from g and s. The results are the degrees of g1 and g2.
 fn prepare<F: BinaryField>(
     g: &Modulus<'_, F>,
     s: &[u16],
-    v: &mut [u16],
     by: &mut Divided<'_>,
-    g12: &mut [u16],
     rows: &mut Rows<'_>,
     wide: &mut Wide<'_>,
 ) -> (usize, usize)
     requires code { (length g.now.p.now ≡ g.now.n + 1) × ((length s.now ≡ g.now.n) × ((coefs F.Field.places g.now.p.now) g.now.n ≡ F.Field.ops.one)) }
-    requires fits { (length v.old ≡ g.now.n + 1) × ((length by.old.g1.now ≡ g.now.n + 1) × ((length g12.old ≡ g.now.n + 1) × ((length rows.old.s.now ≡ g.now.n + 1) × (length wide.old.whole.now ≡ 2 * (g.now.n + 1))))) }
-    ensures ready { Ready F.Field.ops F.Field.places g.now.n g.now.p.now s.now v.new by.new.g1.now by.new.g2.now by.new.s1.now by.new.v2.now g12.new result.0 result.1 }
-    ensures kept { (length by.new.g1.now ≡ length by.old.g1.now) × ((length rows.new.s.now ≡ length rows.old.s.now) × (length wide.new.whole.now ≡ length wide.old.whole.now)) }
+    requires fits { (length by.old.v.now ≡ g.now.n + 1) × ((length rows.old.s.now ≡ g.now.n + 1) × (length wide.old.whole.now ≡ 2 * (g.now.n + 1))) }
+    ensures ready { Ready F.Field.ops F.Field.places g.now.n g.now.p.now s.now by.new.v.now by.new.g1.now by.new.g2.now by.new.s1.now by.new.v2.now by.new.g12.now result.0 result.1 }
+    ensures kept { (length by.new.v.now ≡ length by.old.v.now) × ((length rows.new.s.now ≡ length rows.old.s.now) × (length wide.new.whole.now ≡ length wide.old.whole.now)) }
 {
-    shifted_syndrome::<F>(s, g.p, v, g.n);
+    let v = &mut *by.v;
     let g1 = &mut *by.g1;
     let g2 = &mut *by.g2;
+    shifted_syndrome::<F>(s, g.p, v, g.n);
     let n1 = g.common_divisor(s, g1, rows);
     let n2 = g.common_divisor(v, g2, rows);
     quotient::<F>(s, g1, by.s1, rows.r, n1);
     quotient::<F>(v, g2, by.v2, rows.r, n2);
     product::<F>(wide.whole, g1, g2);
-    quotient::<F>(g.p, wide.whole, g12, rows.r, n1 + n2);
+    quotient::<F>(g.p, wide.whole, by.g12, rows.r, n1 + n2);
     (n1, n2)
 }
 
-// Writes the square root of g1·v2 by g2·s1 modulo g12, of degree n.
+// Writes the square root of g1·v2 by g2·s1 modulo g12 to r.
 fn key_root<F: BinaryField>(
-    modulus: &Modulus<'_, F>,
+    g12: &Modulus<'_, F>,
     by: &Divided<'_>,
-    out: &mut [u16],
-    root: &mut [u16],
+    roots: &mut Roots<'_>,
     rows: &mut Rows<'_>,
-    halves: &mut Halves<'_>,
     wide: &mut Wide<'_>,
 )
-    requires fits { (1 ≤ modulus.now.n) × ((length by.now.g1.now ≡ length modulus.now.p.now) × ((length out.old ≡ length modulus.now.p.now) × (length root.old ≡ length modulus.now.p.now))) }
-    requires work { (length rows.old.s.now ≡ length modulus.now.p.now) × ((length halves.old.even.now ≡ length modulus.now.p.now) × (length wide.old.whole.now ≡ 2 * length modulus.now.p.now)) }
-    ensures under { Below F.Field.ops modulus.now.n (coefs F.Field.places out.new) }
-    ensures root { (zs : List F) → Splits F.Field.ops modulus.now.n (value F.Field.ops F.Field.places modulus.now.p.now) zs → ((z : F) → In z zs → F.Field.ops.mul ((value F.Field.ops F.Field.places by.now.g2.now) z) ((value F.Field.ops F.Field.places by.now.s1.now) z) ≢ F.Field.ops.zero) → (x : F) → (value F.Field.ops F.Field.places modulus.now.p.now) x ≡ F.Field.ops.zero → F.Field.ops.mul (F.Field.ops.mul ((value F.Field.ops F.Field.places out.new) x) ((value F.Field.ops F.Field.places out.new) x)) (F.Field.ops.mul ((value F.Field.ops F.Field.places by.now.g2.now) x) ((value F.Field.ops F.Field.places by.now.s1.now) x)) ≡ F.Field.ops.mul ((value F.Field.ops F.Field.places by.now.g1.now) x) ((value F.Field.ops F.Field.places by.now.v2.now) x) }
-    ensures kept { (length rows.new.s.now ≡ length rows.old.s.now) × ((length halves.new.even.now ≡ length halves.old.even.now) × (length wide.new.whole.now ≡ length wide.old.whole.now)) }
+    requires least { 1 ≤ g12.now.n }
+    requires fits { (length by.now.v.now ≡ length g12.now.p.now) × ((length roots.old.even.now ≡ length g12.now.p.now) × ((length rows.old.s.now ≡ length g12.now.p.now) × (length wide.old.whole.now ≡ 2 * length g12.now.p.now))) }
+    ensures under { Below F.Field.ops g12.now.n (coefs F.Field.places rows.new.r.now) }
+    ensures root { (zs : List F) → Splits F.Field.ops g12.now.n (value F.Field.ops F.Field.places g12.now.p.now) zs → ((z : F) → In z zs → F.Field.ops.mul ((value F.Field.ops F.Field.places by.now.g2.now) z) ((value F.Field.ops F.Field.places by.now.s1.now) z) ≢ F.Field.ops.zero) → (x : F) → (value F.Field.ops F.Field.places g12.now.p.now) x ≡ F.Field.ops.zero → F.Field.ops.mul (F.Field.ops.mul ((value F.Field.ops F.Field.places rows.new.r.now) x) ((value F.Field.ops F.Field.places rows.new.r.now) x)) (F.Field.ops.mul ((value F.Field.ops F.Field.places by.now.g2.now) x) ((value F.Field.ops F.Field.places by.now.s1.now) x)) ≡ F.Field.ops.mul ((value F.Field.ops F.Field.places by.now.g1.now) x) ((value F.Field.ops F.Field.places by.now.v2.now) x) }
+    ensures kept { (length rows.new.s.now ≡ length rows.old.s.now) × (length wide.new.whole.now ≡ length wide.old.whole.now) }
 {
-    modulus.root_of_x(root, halves, rows, wide);
-    modulus.product_modulo(by.g2, by.s1, out, wide);
-    modulus.inverse_modulo(out, rows);
-    modulus.product_modulo(by.g1, by.v2, out, wide);
+    g12.root_of_x(roots, rows, wide);
+    let w = &mut *roots.odd;
+    g12.product_modulo(by.g2, by.s1, w, wide);
+    g12.inverse_modulo(w, rows);
+    g12.product_modulo(by.g1, by.v2, w, wide);
     let u = &mut *rows.s;
-    modulus.product_modulo(out, rows.b, u, wide);
-    modulus.square_root_modulo(u, root, out, halves, wide);
+    g12.product_modulo(w, rows.b, u, wide);
+    g12.square_root_modulo(u, rows.r, roots, wide);
 }
 
-// Euclid's rule from the modulus and y, of a lower degree, up to the first remainder below X^stop, which r then holds; b holds the factor of y in it. The result is the degree of the remainder before.
-fn key_solution<F: BinaryField>(
-    modulus: &Modulus<'_, F>,
-    y: &[u16],
-    rows: &mut Rows<'_>,
-    stop: usize,
-) -> usize
-    requires fits { (stop ≤ modulus.now.n) × ((length y.now ≡ length modulus.now.p.now) × (length rows.old.s.now ≡ length modulus.now.p.now)) }
-    requires under { Below F.Field.ops modulus.now.n (coefs F.Field.places y.now) }
-    ensures state { EuclidState F.Field.ops modulus.now.n (value F.Field.ops F.Field.places modulus.now.p.now) (value F.Field.ops F.Field.places y.now) result (value F.Field.ops F.Field.places rows.new.s.now) (value F.Field.ops F.Field.places rows.new.r.now) (value F.Field.ops F.Field.places rows.new.a.now) (value F.Field.ops F.Field.places rows.new.b.now) }
+// Euclid's rule from the modulus and r, of a lower degree, up to the first remainder below X^stop, which r then holds; b holds the factor of the first r in it. The result is the degree of the remainder before.
+fn key_solution<F: BinaryField>(modulus: &Modulus<'_, F>, rows: &mut Rows<'_>, stop: usize) -> usize
+    requires fits { (stop ≤ modulus.now.n) × (length rows.old.s.now ≡ length modulus.now.p.now) }
+    requires under { Below F.Field.ops modulus.now.n (coefs F.Field.places rows.old.r.now) }
+    ensures state { EuclidState F.Field.ops modulus.now.n (value F.Field.ops F.Field.places modulus.now.p.now) (value F.Field.ops F.Field.places rows.old.r.now) result (value F.Field.ops F.Field.places rows.new.s.now) (value F.Field.ops F.Field.places rows.new.r.now) (value F.Field.ops F.Field.places rows.new.a.now) (value F.Field.ops F.Field.places rows.new.b.now) }
     ensures low { (Below F.Field.ops stop (coefs F.Field.places rows.new.r.now)) × (Below F.Field.ops (suc (modulus.now.n - result)) (coefs F.Field.places rows.new.b.now)) }
     ensures high { (stop ≤ result) × (result ≤ modulus.now.n) }
     ensures kept { length rows.new.s.now ≡ length rows.old.s.now }
 {
     rows.s.copy_from_slice(modulus.p);
-    rows.r.copy_from_slice(y);
     euclid::<F>(rows.s, rows.r, rows.a, rows.b, modulus.n, stop)
 }
 
@@ -154,31 +164,24 @@ fn find_locator<F: BinaryField>(
     g: &Modulus<'_, F>,
     s: &[u16],
     out: &mut [u16],
-    v: &mut [u16],
-    root: &mut [u16],
     by: &mut Divided<'_>,
-    g12: &mut [u16],
+    roots: &mut Roots<'_>,
     rows: &mut Rows<'_>,
-    halves: &mut Halves<'_>,
     wide: &mut Wide<'_>,
 ) -> Option<()>
     requires code { (length g.now.p.now ≡ g.now.n + 1) × ((length s.now ≡ g.now.n) × (((coefs F.Field.places g.now.p.now) g.now.n ≡ F.Field.ops.one) × ((2 ≤ g.now.n) × (length out.old ≡ 2 * (g.now.n / 2 + 1))))) }
-    requires fits { (length v.old ≡ g.now.n + 1) × ((length root.old ≡ g.now.n + 1) × ((length by.old.g1.now ≡ g.now.n + 1) × (length g12.old ≡ g.now.n + 1))) }
-    requires work { (length rows.old.s.now ≡ g.now.n + 1) × ((length halves.old.even.now ≡ g.now.n + 1) × (length wide.old.whole.now ≡ 2 * (g.now.n + 1))) }
+    requires fits { (length by.old.v.now ≡ g.now.n + 1) × ((length roots.old.even.now ≡ g.now.n + 1) × ((length rows.old.s.now ≡ g.now.n + 1) × (length wide.old.whole.now ≡ 2 * (g.now.n + 1)))) }
     ensures { (zs sup : List F) → GoppaCode F.Field.ops g.now.n (value F.Field.ops F.Field.places g.now.p.now) zs sup → MatchOption result (NoErrors F.Field.ops g.now.n (value F.Field.ops F.Field.places s.now) zs sup) (λ _. Locates F.Field.ops g.now.n (value F.Field.ops F.Field.places s.now) zs sup (value F.Field.ops F.Field.places out.new)) }
 {
     let t = g.n;
-    let (n1, n2) = prepare(g, s, v, by, g12, rows, wide);
+    let (n1, n2) = prepare(g, s, by, rows, wide);
     if !within_bounds(t, n1, n2) {
         return None;
     }
-    let modulus = Modulus::<F> {
-        p: g12,
-        n: t - (n1 + n2),
-        of: PhantomData,
-    };
-    key_root(&modulus, by, v, root, rows, halves, wide);
-    key_solution(&modulus, v, rows, t / 2 - n2 + 1);
+    let by = &*by;
+    let g12 = by.modulus::<F>(t - (n1 + n2));
+    key_root(&g12, by, roots, rows, wide);
+    key_solution(&g12, rows, t / 2 - n2 + 1);
     join_parts::<F>(rows.r, rows.b, by, out, wide, t / 2 + 1);
     Some(())
 }
@@ -197,39 +200,38 @@ pub fn locate_within<F: BinaryField>(
 {
     let l = t + 1;
     let (v, rest) = work.split_at_mut(l);
-    let (root, rest) = rest.split_at_mut(l);
     let (g1, rest) = rest.split_at_mut(l);
     let (g2, rest) = rest.split_at_mut(l);
     let (s1, rest) = rest.split_at_mut(l);
     let (v2, rest) = rest.split_at_mut(l);
     let (g12, rest) = rest.split_at_mut(l);
-    let (s_row, rest) = rest.split_at_mut(l);
+    let (even, rest) = rest.split_at_mut(l);
+    let (odd, rest) = rest.split_at_mut(l);
+    let (x, rest) = rest.split_at_mut(l);
+    let (first, rest) = rest.split_at_mut(l);
     let (r, rest) = rest.split_at_mut(l);
     let (a, rest) = rest.split_at_mut(l);
     let (b, rest) = rest.split_at_mut(l);
-    let (even, rest) = rest.split_at_mut(l);
-    let (odd, rest) = rest.split_at_mut(l);
     let (whole, rest) = rest.split_at_mut(2 * l);
     let (quot, _) = rest.split_at_mut(2 * l);
-    let mut by = Divided { g1, g2, s1, v2 };
-    let mut rows = Rows { s: s_row, r, a, b };
-    let mut halves = Halves { even, odd };
-    let mut wide = Wide { whole, quot };
-    let code = Modulus::<F> {
-        p: g,
-        n: t,
-        of: PhantomData,
-    };
     find_locator(
-        &code,
+        &Modulus::<F> {
+            p: g,
+            n: t,
+            of: PhantomData,
+        },
         s,
         out,
-        v,
-        root,
-        &mut by,
-        g12,
-        &mut rows,
-        &mut halves,
-        &mut wide,
+        &mut Divided {
+            v,
+            g1,
+            g2,
+            s1,
+            v2,
+            g12,
+        },
+        &mut Roots { even, odd, x },
+        &mut Rows { s: first, r, a, b },
+        &mut Wide { whole, quot },
     )
 }

@@ -13,12 +13,14 @@ pub struct Rows<'a> {
     pub ghost second_factor: { length b.now ≡ length s.now },
 }
 
-// The parts of a polynomial, even² + X·odd².
+// The parts of a polynomial, even² + X·odd², and a root of X.
 #[derive(Drop)]
-pub struct Halves<'a> {
+pub struct Roots<'a> {
     pub even: &'a mut [u16],
     pub odd: &'a mut [u16],
-    pub ghost same: { length odd.now ≡ length even.now },
+    pub x: &'a mut [u16],
+    pub ghost odd_too: { length odd.now ≡ length even.now },
+    pub ghost x_too: { length x.now ≡ length even.now },
 }
 
 // A product, and its quotient by a modulus.

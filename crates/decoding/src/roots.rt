@@ -7,7 +7,7 @@ ghost use Rattle.patterson.specs.Points.{In};
 ghost use Rattle.patterson.specs.Polys.{Splits};
 ghost use Rattle.patterson.specs.Locator.{from_parts};
 
-use crate::memory::{Halves, Rows, Wide};
+use crate::memory::{Roots, Rows, Wide};
 use crate::steps::{Modulus, copy};
 use fields::field::{BinaryField, Field};
 use fields::read;
@@ -63,42 +63,34 @@ impl<F: BinaryField> Modulus<'_, F> {
     }
 
     // Writes a square root of X, where the polynomial has n different zeros: it is even² + X·odd², so even by odd.
-    pub fn root_of_x(
-        &self,
-        out: &mut [u16],
-        halves: &mut Halves<'_>,
-        rows: &mut Rows<'_>,
-        wide: &mut Wide<'_>,
-    )
-        requires fits { (1 ≤ self.now.n) × (length out.old ≡ length self.now.p.now) }
-        requires work { (length halves.old.even.now ≡ length self.now.p.now) × ((length rows.old.s.now ≡ length self.now.p.now) × (length wide.old.whole.now ≡ 2 * length self.now.p.now)) }
-        ensures under { Below F.Field.ops self.now.n (coefs F.Field.places out.new) }
-        ensures root { (zs : List F) → Splits F.Field.ops self.now.n (value F.Field.ops F.Field.places self.now.p.now) zs → (x : F) → (value F.Field.ops F.Field.places self.now.p.now) x ≡ F.Field.ops.zero → F.Field.ops.mul ((value F.Field.ops F.Field.places out.new) x) ((value F.Field.ops F.Field.places out.new) x) ≡ x }
-        ensures kept { (length rows.new.s.now ≡ length rows.old.s.now) × ((length halves.new.even.now ≡ length halves.old.even.now) × (length wide.new.whole.now ≡ length wide.old.whole.now)) }
+    pub fn root_of_x(&self, roots: &mut Roots<'_>, rows: &mut Rows<'_>, wide: &mut Wide<'_>)
+        requires least { 1 ≤ self.now.n }
+        requires fits { (length roots.old.even.now ≡ length self.now.p.now) × ((length rows.old.s.now ≡ length self.now.p.now) × (length wide.old.whole.now ≡ 2 * length self.now.p.now)) }
+        ensures under { Below F.Field.ops self.now.n (coefs F.Field.places roots.new.x.now) }
+        ensures root { (zs : List F) → Splits F.Field.ops self.now.n (value F.Field.ops F.Field.places self.now.p.now) zs → (x : F) → (value F.Field.ops F.Field.places self.now.p.now) x ≡ F.Field.ops.zero → F.Field.ops.mul ((value F.Field.ops F.Field.places roots.new.x.now) x) ((value F.Field.ops F.Field.places roots.new.x.now) x) ≡ x }
+        ensures kept { (length roots.new.even.now ≡ length roots.old.even.now) × ((length rows.new.s.now ≡ length rows.old.s.now) × (length wide.new.whole.now ≡ length wide.old.whole.now)) }
     {
-        roots_apart::<F>(self.p, halves.even, halves.odd);
-        self.inverse_modulo(halves.odd, rows);
-        self.product_modulo(halves.even, rows.b, out, wide);
+        roots_apart::<F>(self.p, roots.even, roots.odd);
+        self.inverse_modulo(roots.odd, rows);
+        self.product_modulo(roots.even, rows.b, roots.x, wide);
     }
 
-    // Writes the square root of u, below X^n, from a square root of X.
+    // Writes the square root of u, below X^n, from the square root of X.
     pub fn square_root_modulo(
         &self,
         u: &[u16],
-        root: &[u16],
         out: &mut [u16],
-        halves: &mut Halves<'_>,
+        roots: &mut Roots<'_>,
         wide: &mut Wide<'_>,
     )
-        requires fits { (length u.now ≡ length self.now.p.now) × ((length root.now ≡ length self.now.p.now) × (length out.old ≡ length self.now.p.now)) }
-        requires work { (length halves.old.even.now ≡ length self.now.p.now) × (length wide.old.whole.now ≡ 2 * length self.now.p.now) }
+        requires fits { (length u.now ≡ length self.now.p.now) × ((length out.old ≡ length self.now.p.now) × ((length roots.old.even.now ≡ length self.now.p.now) × (length wide.old.whole.now ≡ 2 * length self.now.p.now))) }
         requires under { Below F.Field.ops self.now.n (coefs F.Field.places u.now) }
         ensures under { Below F.Field.ops self.now.n (coefs F.Field.places out.new) }
-        ensures root { (x : F) → (value F.Field.ops F.Field.places self.now.p.now) x ≡ F.Field.ops.zero → F.Field.ops.mul ((value F.Field.ops F.Field.places root.now) x) ((value F.Field.ops F.Field.places root.now) x) ≡ x → F.Field.ops.mul ((value F.Field.ops F.Field.places out.new) x) ((value F.Field.ops F.Field.places out.new) x) ≡ (value F.Field.ops F.Field.places u.now) x }
-        ensures kept { (length halves.new.even.now ≡ length halves.old.even.now) × (length wide.new.whole.now ≡ length wide.old.whole.now) }
+        ensures root { (x : F) → (value F.Field.ops F.Field.places self.now.p.now) x ≡ F.Field.ops.zero → F.Field.ops.mul ((value F.Field.ops F.Field.places roots.old.x.now) x) ((value F.Field.ops F.Field.places roots.old.x.now) x) ≡ x → F.Field.ops.mul ((value F.Field.ops F.Field.places out.new) x) ((value F.Field.ops F.Field.places out.new) x) ≡ (value F.Field.ops F.Field.places u.now) x }
+        ensures kept { (length roots.new.even.now ≡ length roots.old.even.now) × (length wide.new.whole.now ≡ length wide.old.whole.now) }
     {
-        roots_apart::<F>(u, halves.even, halves.odd);
-        self.product_modulo(root, halves.odd, out, wide);
-        add::<F>(out, halves.even);
+        roots_apart::<F>(u, roots.even, roots.odd);
+        self.product_modulo(roots.x, roots.odd, out, wide);
+        add::<F>(out, roots.even);
     }
 }

@@ -12,7 +12,7 @@ returns g c =
     let z = g.met.F.Field.origin in
     let n = c.args.modulus.now.n in
     let p = c.copy_from_slice.new.self in
-    let q = c.copy_from_slice-2.new.self in
+    let q = c.args.rows.now.r.now in
     let x = c.euclid.new in
     let got = c.euclid.ensures in
     let d = c.euclid.result in
@@ -20,8 +20,7 @@ returns g c =
     let st = state_of k pl z n d p q x.s x.r x.a x.b got.rule got.points in
     record {
       state =
-          subst (λ (l : List ℕ). EuclidState f n (v l) (v c.args.y.now) d (v x.s) (v x.r) (v x.a) (v x.b)) c.copy_from_slice.ensures.after
-          (subst (λ (l : List ℕ). EuclidState f n (v p) (v l) d (v x.s) (v x.r) (v x.a) (v x.b)) c.copy_from_slice-2.ensures.after st);
+          subst (λ (l : List ℕ). EuclidState f n (v l) (v q) d (v x.s) (v x.r) (v x.a) (v x.b)) c.copy_from_slice.ensures.after st;
       low = (got.last.1, got.rule.short_b);
       high = (got.last.0, got.rule.within);
       kept = search rules;

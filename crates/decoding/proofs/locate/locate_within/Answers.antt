@@ -2,8 +2,8 @@ use Rattle.std.proofs.Common.{sym, ◌∙◌, arith, rules}
 use Rattle.polys.proofs.Lists.{below_list}
 use Rattle.decoding.proofs.locate.locate_within.Goals as goal
 
-pub invariant_of-code : goal.invariant_of-code
-invariant_of-code g c =
+pub invariant_of-find_locator : goal.invariant_of-find_locator
+invariant_of-find_locator g c =
     let k = g.met.F.Field.laws in
     record {
       within = search rules;

@@ -26,7 +26,7 @@ returns g c =
     record {
       under = subst (λ (s : Series g.row.F.Denot). Below f n s) (sym c.add.ensures.is) (below_add k n (coefs pl out) (coefs pl a) c.product_modulo.ensures.under low);
       root = λ x at e.
-          root_from k x (value f pl a x) (value f pl b x) (value f pl c.args.root.now x) (value f pl u x) (value f pl y x) (c.roots_apart.ensures.values x) e
+          root_from k x (value f pl a x) (value f pl b x) (value f pl c.args.roots.now.x.now x) (value f pl u x) (value f pl y x) (c.roots_apart.ensures.values x) e
           (value_plus k pl z y out a c.add.ensures.is x ∙ ap (λ w. f.add w (value f pl a x)) (c.product_modulo.ensures.values x at));
       kept = search rules;
     }
