@@ -47,69 +47,89 @@ impl Divided<'_> {
             of: PhantomData,
         }
     }
+
+    // Writes what follows from g and s. The results are the degrees of g1 and g2.
+    fn prepare<F: BinaryField>(
+        &mut self,
+        g: &Modulus<'_, F>,
+        s: &[u16],
+        rows: &mut Rows<'_>,
+        wide: &mut Wide<'_>,
+    ) -> (usize, usize)
+        requires code { (length g.now.p.now ≡ g.now.n + 1) × ((length s.now ≡ g.now.n) × ((coefs F.Field.places g.now.p.now) g.now.n ≡ F.Field.ops.one)) }
+        requires fits { (length self.old.v.now ≡ g.now.n + 1) × ((length rows.old.s.now ≡ g.now.n + 1) × (length wide.old.whole.now ≡ 2 * (g.now.n + 1))) }
+        ensures ready { Ready F.Field.ops F.Field.places g.now.n g.now.p.now s.now self.new.v.now self.new.g1.now self.new.g2.now self.new.s1.now self.new.v2.now self.new.g12.now result.0 result.1 }
+        ensures kept { (length self.new.v.now ≡ length self.old.v.now) × ((length rows.new.s.now ≡ length rows.old.s.now) × (length wide.new.whole.now ≡ length wide.old.whole.now)) }
+    {
+        let v = &mut *self.v;
+        let g1 = &mut *self.g1;
+        let g2 = &mut *self.g2;
+        shifted_syndrome::<F>(s, g.p, v, g.n);
+        let n1 = g.common_divisor(s, g1, rows);
+        let n2 = g.common_divisor(v, g2, rows);
+        quotient::<F>(s, g1, self.s1, rows.r, n1);
+        quotient::<F>(v, g2, self.v2, rows.r, n2);
+        product::<F>(wide.whole, g1, g2);
+        quotient::<F>(g.p, wide.whole, self.g12, rows.r, n1 + n2);
+        (n1, n2)
+    }
+
+    // Writes the square root of g1·v2 by g2·s1 modulo g12 to r.
+    fn key_root<F: BinaryField>(
+        &self,
+        g12: &Modulus<'_, F>,
+        roots: &mut Roots<'_>,
+        rows: &mut Rows<'_>,
+        wide: &mut Wide<'_>,
+    )
+        requires least { 1 ≤ g12.now.n }
+        requires fits { (length self.now.v.now ≡ length g12.now.p.now) × ((length roots.old.even.now ≡ length g12.now.p.now) × ((length rows.old.s.now ≡ length g12.now.p.now) × (length wide.old.whole.now ≡ 2 * length g12.now.p.now))) }
+        ensures under { Below F.Field.ops g12.now.n (coefs F.Field.places rows.new.r.now) }
+        ensures root { (zs : List F) → Splits F.Field.ops g12.now.n (value F.Field.ops F.Field.places g12.now.p.now) zs → ((z : F) → In z zs → F.Field.ops.mul ((value F.Field.ops F.Field.places self.now.g2.now) z) ((value F.Field.ops F.Field.places self.now.s1.now) z) ≢ F.Field.ops.zero) → (x : F) → (value F.Field.ops F.Field.places g12.now.p.now) x ≡ F.Field.ops.zero → F.Field.ops.mul (F.Field.ops.mul ((value F.Field.ops F.Field.places rows.new.r.now) x) ((value F.Field.ops F.Field.places rows.new.r.now) x)) (F.Field.ops.mul ((value F.Field.ops F.Field.places self.now.g2.now) x) ((value F.Field.ops F.Field.places self.now.s1.now) x)) ≡ F.Field.ops.mul ((value F.Field.ops F.Field.places self.now.g1.now) x) ((value F.Field.ops F.Field.places self.now.v2.now) x) }
+        ensures kept { (length rows.new.s.now ≡ length rows.old.s.now) × (length wide.new.whole.now ≡ length wide.old.whole.now) }
+    {
+        g12.root_of_x(roots, rows, wide);
+        let w = &mut *roots.odd;
+        g12.product_modulo(self.g2, self.s1, w, wide);
+        g12.inverse_modulo(w, rows);
+        g12.product_modulo(self.g1, self.v2, w, wide);
+        let u = &mut *rows.s;
+        g12.product_modulo(w, rows.b, u, wide);
+        g12.square_root_modulo(u, rows.r, roots, wide);
+    }
+
+    // Writes (a·g2)² + X·(b·g1)², where both products lie below X^n.
+    fn join_parts<F: BinaryField>(
+        &self,
+        a: &[u16],
+        b: &[u16],
+        out: &mut [u16],
+        wide: &mut Wide<'_>,
+        n: usize,
+    )
+        requires fits { (length a.now + length self.now.g2.now ≤ length wide.old.whole.now + 1) × ((length b.now + length self.now.g1.now ≤ length wide.old.whole.now + 1) × ((n ≤ length wide.old.whole.now) × (length out.old ≡ 2 * n))) }
+        requires under { (Below F.Field.ops n ((poly F.Field.ops).mul (coefs F.Field.places a.now) (coefs F.Field.places self.now.g2.now))) × (Below F.Field.ops n ((poly F.Field.ops).mul (coefs F.Field.places b.now) (coefs F.Field.places self.now.g1.now))) }
+        ensures { (x : F) → (value F.Field.ops F.Field.places out.new) x ≡ candidate F.Field.ops (value F.Field.ops F.Field.places self.now.g1.now) (value F.Field.ops F.Field.places self.now.g2.now) (value F.Field.ops F.Field.places a.now) (value F.Field.ops F.Field.places b.now) x }
+    {
+        product::<F>(wide.whole, a, self.g2);
+        product::<F>(wide.quot, b, self.g1);
+        join_squares::<F>(wide.whole, wide.quot, out, n);
+    }
 }
 
-// Writes what follows from g and s. The results are the degrees of g1 and g2.
-fn prepare<F: BinaryField>(
-    g: &Modulus<'_, F>,
-    s: &[u16],
-    by: &mut Divided<'_>,
-    rows: &mut Rows<'_>,
-    wide: &mut Wide<'_>,
-) -> (usize, usize)
-    requires code { (length g.now.p.now ≡ g.now.n + 1) × ((length s.now ≡ g.now.n) × ((coefs F.Field.places g.now.p.now) g.now.n ≡ F.Field.ops.one)) }
-    requires fits { (length by.old.v.now ≡ g.now.n + 1) × ((length rows.old.s.now ≡ g.now.n + 1) × (length wide.old.whole.now ≡ 2 * (g.now.n + 1))) }
-    ensures ready { Ready F.Field.ops F.Field.places g.now.n g.now.p.now s.now by.new.v.now by.new.g1.now by.new.g2.now by.new.s1.now by.new.v2.now by.new.g12.now result.0 result.1 }
-    ensures kept { (length by.new.v.now ≡ length by.old.v.now) × ((length rows.new.s.now ≡ length rows.old.s.now) × (length wide.new.whole.now ≡ length wide.old.whole.now)) }
-{
-    let v = &mut *by.v;
-    let g1 = &mut *by.g1;
-    let g2 = &mut *by.g2;
-    shifted_syndrome::<F>(s, g.p, v, g.n);
-    let n1 = g.common_divisor(s, g1, rows);
-    let n2 = g.common_divisor(v, g2, rows);
-    quotient::<F>(s, g1, by.s1, rows.r, n1);
-    quotient::<F>(v, g2, by.v2, rows.r, n2);
-    product::<F>(wide.whole, g1, g2);
-    quotient::<F>(g.p, wide.whole, by.g12, rows.r, n1 + n2);
-    (n1, n2)
-}
-
-// Writes the square root of g1·v2 by g2·s1 modulo g12 to r.
-fn key_root<F: BinaryField>(
-    g12: &Modulus<'_, F>,
-    by: &Divided<'_>,
-    roots: &mut Roots<'_>,
-    rows: &mut Rows<'_>,
-    wide: &mut Wide<'_>,
-)
-    requires least { 1 ≤ g12.now.n }
-    requires fits { (length by.now.v.now ≡ length g12.now.p.now) × ((length roots.old.even.now ≡ length g12.now.p.now) × ((length rows.old.s.now ≡ length g12.now.p.now) × (length wide.old.whole.now ≡ 2 * length g12.now.p.now))) }
-    ensures under { Below F.Field.ops g12.now.n (coefs F.Field.places rows.new.r.now) }
-    ensures root { (zs : List F) → Splits F.Field.ops g12.now.n (value F.Field.ops F.Field.places g12.now.p.now) zs → ((z : F) → In z zs → F.Field.ops.mul ((value F.Field.ops F.Field.places by.now.g2.now) z) ((value F.Field.ops F.Field.places by.now.s1.now) z) ≢ F.Field.ops.zero) → (x : F) → (value F.Field.ops F.Field.places g12.now.p.now) x ≡ F.Field.ops.zero → F.Field.ops.mul (F.Field.ops.mul ((value F.Field.ops F.Field.places rows.new.r.now) x) ((value F.Field.ops F.Field.places rows.new.r.now) x)) (F.Field.ops.mul ((value F.Field.ops F.Field.places by.now.g2.now) x) ((value F.Field.ops F.Field.places by.now.s1.now) x)) ≡ F.Field.ops.mul ((value F.Field.ops F.Field.places by.now.g1.now) x) ((value F.Field.ops F.Field.places by.now.v2.now) x) }
-    ensures kept { (length rows.new.s.now ≡ length rows.old.s.now) × (length wide.new.whole.now ≡ length wide.old.whole.now) }
-{
-    g12.root_of_x(roots, rows, wide);
-    let w = &mut *roots.odd;
-    g12.product_modulo(by.g2, by.s1, w, wide);
-    g12.inverse_modulo(w, rows);
-    g12.product_modulo(by.g1, by.v2, w, wide);
-    let u = &mut *rows.s;
-    g12.product_modulo(w, rows.b, u, wide);
-    g12.square_root_modulo(u, rows.r, roots, wide);
-}
-
-// Euclid's rule from the modulus and r, of a lower degree, up to the first remainder below X^stop, which r then holds; b holds the factor of the first r in it. The result is the degree of the remainder before.
-fn key_solution<F: BinaryField>(modulus: &Modulus<'_, F>, rows: &mut Rows<'_>, stop: usize) -> usize
-    requires fits { (stop ≤ modulus.now.n) × (length rows.old.s.now ≡ length modulus.now.p.now) }
-    requires under { Below F.Field.ops modulus.now.n (coefs F.Field.places rows.old.r.now) }
-    ensures state { EuclidState F.Field.ops modulus.now.n (value F.Field.ops F.Field.places modulus.now.p.now) (value F.Field.ops F.Field.places rows.old.r.now) result (value F.Field.ops F.Field.places rows.new.s.now) (value F.Field.ops F.Field.places rows.new.r.now) (value F.Field.ops F.Field.places rows.new.a.now) (value F.Field.ops F.Field.places rows.new.b.now) }
-    ensures low { (Below F.Field.ops stop (coefs F.Field.places rows.new.r.now)) × (Below F.Field.ops (suc (modulus.now.n - result)) (coefs F.Field.places rows.new.b.now)) }
-    ensures high { (stop ≤ result) × (result ≤ modulus.now.n) }
-    ensures kept { length rows.new.s.now ≡ length rows.old.s.now }
-{
-    rows.s.copy_from_slice(modulus.p);
-    euclid::<F>(rows.s, rows.r, rows.a, rows.b, modulus.n, stop)
+impl<F: BinaryField> Modulus<'_, F> {
+    // Euclid's rule from the polynomial and r, of a lower degree, up to the first remainder below X^stop, which r then holds; b holds the factor of the first r in it. The result is the degree of the remainder before.
+    fn key_solution(&self, rows: &mut Rows<'_>, stop: usize) -> usize
+        requires fits { (stop ≤ self.now.n) × (length rows.old.s.now ≡ length self.now.p.now) }
+        requires under { Below F.Field.ops self.now.n (coefs F.Field.places rows.old.r.now) }
+        ensures state { EuclidState F.Field.ops self.now.n (value F.Field.ops F.Field.places self.now.p.now) (value F.Field.ops F.Field.places rows.old.r.now) result (value F.Field.ops F.Field.places rows.new.s.now) (value F.Field.ops F.Field.places rows.new.r.now) (value F.Field.ops F.Field.places rows.new.a.now) (value F.Field.ops F.Field.places rows.new.b.now) }
+        ensures low { (Below F.Field.ops stop (coefs F.Field.places rows.new.r.now)) × (Below F.Field.ops (suc (self.now.n - result)) (coefs F.Field.places rows.new.b.now)) }
+        ensures high { (stop ≤ result) × (result ≤ self.now.n) }
+        ensures kept { length rows.new.s.now ≡ length rows.old.s.now }
+    {
+        rows.s.copy_from_slice(self.p);
+        euclid::<F>(rows.s, rows.r, rows.a, rows.b, self.n, stop)
+    }
 }
 
 // The square of coefficient i.
@@ -134,24 +154,6 @@ fn join_squares<F: BinaryField>(p: &[u16], q: &[u16], out: &mut [u16], n: usize)
     }
 }
 
-// Writes (a·g2)² + X·(b·g1)², where both products lie below X^n.
-fn join_parts<F: BinaryField>(
-    a: &[u16],
-    b: &[u16],
-    by: &Divided<'_>,
-    out: &mut [u16],
-    wide: &mut Wide<'_>,
-    n: usize,
-)
-    requires fits { (length a.now + length by.now.g2.now ≤ length wide.old.whole.now + 1) × ((length b.now + length by.now.g1.now ≤ length wide.old.whole.now + 1) × ((n ≤ length wide.old.whole.now) × (length out.old ≡ 2 * n))) }
-    requires under { (Below F.Field.ops n ((poly F.Field.ops).mul (coefs F.Field.places a.now) (coefs F.Field.places by.now.g2.now))) × (Below F.Field.ops n ((poly F.Field.ops).mul (coefs F.Field.places b.now) (coefs F.Field.places by.now.g1.now))) }
-    ensures { (x : F) → (value F.Field.ops F.Field.places out.new) x ≡ candidate F.Field.ops (value F.Field.ops F.Field.places by.now.g1.now) (value F.Field.ops F.Field.places by.now.g2.now) (value F.Field.ops F.Field.places a.now) (value F.Field.ops F.Field.places b.now) x }
-{
-    product::<F>(wide.whole, a, by.g2);
-    product::<F>(wide.quot, b, by.g1);
-    join_squares::<F>(wide.whole, wide.quot, out, n);
-}
-
 // Whether the degrees of g1 and g2 are within their bounds; only then can a vector of weight t have the syndrome.
 fn within_bounds(t: usize, n1: usize, n2: usize) -> bool
     ensures { elim result [ true ↦ (n1 < suc t / 2) × (n2 ≤ t / 2) | false ↦ ((n1 < suc t / 2) × (n2 ≤ t / 2) → ⊥) ] }
@@ -174,15 +176,15 @@ fn find_locator<F: BinaryField>(
     ensures { (zs sup : List F) → GoppaCode F.Field.ops g.now.n (value F.Field.ops F.Field.places g.now.p.now) zs sup → MatchOption result (NoErrors F.Field.ops g.now.n (value F.Field.ops F.Field.places s.now) zs sup) (λ _. Locates F.Field.ops g.now.n (value F.Field.ops F.Field.places s.now) zs sup (value F.Field.ops F.Field.places out.new)) }
 {
     let t = g.n;
-    let (n1, n2) = prepare(g, s, by, rows, wide);
+    let (n1, n2) = by.prepare(g, s, rows, wide);
     if !within_bounds(t, n1, n2) {
         return None;
     }
     let by = &*by;
     let g12 = by.modulus::<F>(t - (n1 + n2));
-    key_root(&g12, by, roots, rows, wide);
-    key_solution(&g12, rows, t / 2 - n2 + 1);
-    join_parts::<F>(rows.r, rows.b, by, out, wide, t / 2 + 1);
+    by.key_root(&g12, roots, rows, wide);
+    g12.key_solution(rows, t / 2 - n2 + 1);
+    by.join_parts::<F>(rows.r, rows.b, out, wide, t / 2 + 1);
     Some(())
 }
 

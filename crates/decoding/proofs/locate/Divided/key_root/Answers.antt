@@ -1,6 +1,6 @@
 use Rattle.std.proofs.Common.{rules, ◌≡◌, sym, ap, ◌∙◌}
 use Rattle.polys.specs.Values.{value}
-use Rattle.decoding.proofs.locate.key_root.Goals as goal
+use Rattle.decoding.proofs.locate.Divided.key_root.Goals as goal
 
 pub returns : goal.returns
 returns g c =
@@ -14,8 +14,8 @@ returns g c =
       under = c.square_root_modulo.ensures.under;
       root = λ zs sp some x at.
           let w = value f pl c.inverse_modulo.new.rows.b.now x in
-          let d = f.mul (value f pl c.args.by.now.g2.now x) (value f pl c.args.by.now.s1.now x) in
-          let n = f.mul (value f pl c.args.by.now.g1.now x) (value f pl c.args.by.now.v2.now x) in
+          let d = f.mul (value f pl c.args.self.now.g2.now x) (value f pl c.args.self.now.s1.now x) in
+          let n = f.mul (value f pl c.args.self.now.g1.now x) (value f pl c.args.self.now.v2.now x) in
           let inverse : f.mul w d ≡ f.one =
           ap (f.mul w) (sym (den x at)) ∙ c.inverse_modulo.ensures.values zs sp (λ y i e. some y i (sym (den y (sp.zeros y i)) ∙ e)) x at in
           ap (λ y. f.mul y d) (c.square_root_modulo.ensures.root x at (c.root_of_x.ensures.root zs sp x at) ∙ u x at ∙ ap (λ y. f.mul y w) (num x at))

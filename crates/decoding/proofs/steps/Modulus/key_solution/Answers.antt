@@ -2,7 +2,7 @@ use Rattle.std.proofs.Common.{rules, ℕ, List, subst}
 use Rattle.polys.specs.Values.{value}
 use Rattle.patterson.specs.Euclid.{EuclidState}
 use Rattle.decoding.proofs.States.{state_of}
-use Rattle.decoding.proofs.locate.key_solution.Goals as goal
+use Rattle.decoding.proofs.steps.Modulus.key_solution.Goals as goal
 
 pub returns : goal.returns
 returns g c =
@@ -10,7 +10,7 @@ returns g c =
     let f = g.F.Field.ops in
     let pl = g.F.Field.places in
     let z = g.met.F.Field.origin in
-    let n = c.args.modulus.now.n in
+    let n = c.args.self.now.n in
     let p = c.copy_from_slice.new.self in
     let q = c.args.rows.now.r.now in
     let x = c.euclid.new in

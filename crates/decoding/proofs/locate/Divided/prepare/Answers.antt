@@ -5,7 +5,7 @@ use Rattle.polys.specs.Values.{value}
 use Rattle.polys.proofs.Lists.{below_list}
 use Rattle.decoding.proofs.Values.{poly_of, value_times}
 use Rattle.decoding.proofs.States.{degree_mul}
-use Rattle.decoding.proofs.locate.prepare.Goals as goal
+use Rattle.decoding.proofs.locate.Divided.prepare.Goals as goal
 
 pub common_divisor-n1-requires : goal.common_divisor-n1-requires
 common_divisor-n1-requires g c =
