@@ -147,10 +147,9 @@ fn join_squares<F: BinaryField>(p: &[u16], q: &[u16], out: &mut [u16], n: usize)
     requires under { (Below F.Field.ops n (coefs F.Field.places p.now)) × (Below F.Field.ops n (coefs F.Field.places q.now)) }
     ensures { (x : F) → (value F.Field.ops F.Field.places out.new) x ≡ from_parts F.Field.ops (value F.Field.ops F.Field.places p.now) (value F.Field.ops F.Field.places q.now) x }
 {
-    // By places: a proof does not know what is written through `chunks_exact_mut`.
-    for i in 0..n {
-        out[2 * i] = square_at::<F>(p, i);
-        out[2 * i + 1] = square_at::<F>(q, i);
+    for (i, x) in out.iter_mut().enumerate() {
+        let from = if i % 2 == 0 { p } else { q };
+        *x = square_at::<F>(from, i / 2);
     }
 }
 

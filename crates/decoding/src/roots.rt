@@ -29,9 +29,9 @@ fn every_other_root<F: BinaryField>(p: &[u16], start: usize, out: &mut [u16])
 {
     out.fill(0);
     let rest = p.len() - start;
-    // By places: a `zip` with `iter_mut` would say nothing of what was written.
-    for j in 0..rest / 2 + rest % 2 {
-        out[j] = read::<F>(p[2 * j + start]).square_root().place();
+    let roots = &mut out[..rest / 2 + rest % 2];
+    for (j, x) in roots.iter_mut().enumerate() {
+        *x = read::<F>(p[2 * j + start]).square_root().place();
     }
 }
 
