@@ -21,8 +21,8 @@ returns-then-not-within_bounds g c =
     c.prepare-n1.result.0 c.prepare-n1.result.1 (value f pl x.self.g1.now) (value f pl x.self.g2.now) (value f pl x.self.s1.now) (value f pl x.self.v2.now) (value f pl x.self.g12.now)
     (c.prepare-n1.ensures.ready.prepared zs code.splits.zeros) c.if-not-within_bounds.ensures
 
-pub join_parts-requires : goal.join_parts-requires
-join_parts-requires g c =
+pub join_parts-requires-clause-under : goal.join_parts-requires-clause-under
+join_parts-requires-clause-under g c =
     let k = g.met.F.Field.laws in
     let pl = g.F.Field.places in
     let t = c.args.g.now.n in
@@ -33,14 +33,10 @@ join_parts-requires g c =
     let d = c.key_solution.result in
     let is = c.modulus-g12.ensures in
     let ok : (n1 < suc t / 2) × (n2 ≤ t / 2) = c.if-not-within_bounds.ensures in
-    let high : t / 2 - n2 + 1 ≤ d = c.key_solution.ensures.high.0 in
-    record {
-      fits = search rules;
-      under = (
-        λ j h. below_mul k (t / 2 - n2) (suc n2) (coefs pl y.rows.r.now) (coefs pl x.self.g2.now) (λ i u. c.key_solution.ensures.low.0 i (omega (arith, u))) c.prepare-n1.ensures.ready.degree_2.1 j (omega (arith, h, ok.1)),
-        λ j h. below_mul k (t - (n1 + n2) - d) (suc n1) (coefs pl y.rows.b.now) (coefs pl x.self.g1.now) (rw is.1 at c.key_solution.ensures.low.1) c.prepare-n1.ensures.ready.degree_1.1 j (omega (arith, h, ok.0, ok.1, high)),
-      );
-    }
+    let high : t / 2 - n2 + 1 ≤ d = c.key_solution.ensures.high.0 in (
+      λ j h. below_mul k (t / 2 - n2) (suc n2) (coefs pl y.rows.r.now) (coefs pl x.self.g2.now) (λ i u. c.key_solution.ensures.low.0 i (omega (arith, u))) c.prepare-n1.ensures.ready.degree_2.1 j (omega (arith, h, ok.1)),
+      λ j h. below_mul k (t - (n1 + n2) - d) (suc n1) (coefs pl y.rows.b.now) (coefs pl x.self.g1.now) (rw is.1 at c.key_solution.ensures.low.1) c.prepare-n1.ensures.ready.degree_1.1 j (omega (arith, h, ok.0, ok.1, high)),
+    )
 
 pub returns : goal.returns
 returns g c =

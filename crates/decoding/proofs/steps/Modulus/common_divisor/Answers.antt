@@ -5,8 +5,8 @@ use Rattle.polys.specs.Euclid.{Gcd}
 use Rattle.decoding.proofs.States.{divisor_of, divisor_degree}
 use Rattle.decoding.proofs.steps.Modulus.common_divisor.Goals as goal
 
-pub returns : goal.returns
-returns g c =
+pub returns-clause-divisor : goal.returns-clause-divisor
+returns-clause-divisor g c =
     let k = g.met.F.Field.laws in
     let f = g.F.Field.ops in
     let pl = g.F.Field.places in
@@ -20,4 +20,4 @@ returns g c =
     let first : Gcd f t n (of G) (of c.copy.new.into) (of out) =
     subst (λ (l : List ℕ). Gcd f t n (of l) (of c.copy.new.into) (of out)) c.copy_from_slice.ensures.after c.gcd.ensures.is in
     let made : Gcd f t n (of G) (of q) (of out) = subst (λ (s : Series g.row.F.Denot). Gcd f t n (of G) s (of out)) c.copy.ensures first in
-    record { divisor = divisor_of k pl z t n G q out made; degree = (made.within, divisor_degree k pl z t n G q out made); kept = search rules }
+    divisor_of k pl z t n G q out made

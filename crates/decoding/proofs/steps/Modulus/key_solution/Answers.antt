@@ -4,8 +4,8 @@ use Rattle.patterson.specs.Euclid.{EuclidState}
 use Rattle.decoding.proofs.States.{state_of}
 use Rattle.decoding.proofs.steps.Modulus.key_solution.Goals as goal
 
-pub returns : goal.returns
-returns g c =
+pub returns-clause-state : goal.returns-clause-state
+returns-clause-state g c =
     let k = g.met.F.Field.laws in
     let f = g.F.Field.ops in
     let pl = g.F.Field.places in
@@ -18,10 +18,4 @@ returns g c =
     let d = c.euclid.result in
     let v : List ℕ → g.row.F.Denot → g.row.F.Denot = value f pl in
     let st = state_of k pl z n d p q x.s x.r x.a x.b got.rule got.points in
-    record {
-      state =
-          subst (λ (l : List ℕ). EuclidState f n (v l) (v q) d (v x.s) (v x.r) (v x.a) (v x.b)) c.copy_from_slice.ensures.after st;
-      low = (got.last.1, got.rule.short_b);
-      high = (got.last.0, got.rule.within);
-      kept = search rules;
-    }
+    subst (λ (l : List ℕ). EuclidState f n (v l) (v q) d (v x.s) (v x.r) (v x.a) (v x.b)) c.copy_from_slice.ensures.after st
