@@ -19,9 +19,9 @@ use polys::arithmetic::product;
 use polys::euclid::euclid;
 use std::marker::PhantomData;
 
-// What follows from g and s: v = 1 + X·s modulo g, the common divisors g1 of g and s and g2 of g and v, and s by g1, v by g2 and g by g1·g2.
+// What the stages of the decoder work out from g and s: v = 1 + X·s modulo g, the common divisors g1 of g and s and g2 of g and v, and s by g1, v by g2 and g by g1·g2.
 #[derive(Drop)]
-struct Divided<'a> {
+struct Stages<'a> {
     v: &'a mut [u16],
     g1: &'a mut [u16],
     g2: &'a mut [u16],
@@ -35,7 +35,7 @@ struct Divided<'a> {
     ghost of_g: { length g12.now ≡ length v.now },
 }
 
-impl Divided<'_> {
+impl Stages<'_> {
     // g12, of degree n, as a modulus.
     fn modulus<F: BinaryField>(&self, n: usize) -> Modulus<'_, F>
         requires { (n < length self.now.g12.now) × (Degree F.Field.ops n (coefs F.Field.places self.now.g12.now)) }
@@ -48,7 +48,7 @@ impl Divided<'_> {
         }
     }
 
-    // Writes what follows from g and s. The results are the degrees of g1 and g2.
+    // Works all of it out. The results are the degrees of g1 and g2.
     fn prepare<F: BinaryField>(
         &mut self,
         g: &Modulus<'_, F>,
@@ -98,21 +98,20 @@ impl Divided<'_> {
         g12.square_root_modulo(u, rows.r, roots, wide);
     }
 
-    // Writes (a·g2)² + X·(b·g1)², where both products lie below X^n.
+    // Writes (r·g2)² + X·(b·g1)², where both products lie below X^n.
     fn join_parts<F: BinaryField>(
         &self,
-        a: &[u16],
-        b: &[u16],
+        rows: &Rows<'_>,
         out: &mut [u16],
         wide: &mut Wide<'_>,
         n: usize,
     )
-        requires fits { (length a.now + length self.now.g2.now ≤ length wide.old.whole.now + 1) × ((length b.now + length self.now.g1.now ≤ length wide.old.whole.now + 1) × ((n ≤ length wide.old.whole.now) × (length out.old ≡ 2 * n))) }
-        requires under { (Below F.Field.ops n ((poly F.Field.ops).mul (coefs F.Field.places a.now) (coefs F.Field.places self.now.g2.now))) × (Below F.Field.ops n ((poly F.Field.ops).mul (coefs F.Field.places b.now) (coefs F.Field.places self.now.g1.now))) }
-        ensures { (x : F) → (value F.Field.ops F.Field.places out.new) x ≡ candidate F.Field.ops (value F.Field.ops F.Field.places self.now.g1.now) (value F.Field.ops F.Field.places self.now.g2.now) (value F.Field.ops F.Field.places a.now) (value F.Field.ops F.Field.places b.now) x }
+        requires fits { (length rows.now.s.now + length self.now.v.now ≤ length wide.old.whole.now + 1) × ((n ≤ length wide.old.whole.now) × (length out.old ≡ 2 * n)) }
+        requires under { (Below F.Field.ops n ((poly F.Field.ops).mul (coefs F.Field.places rows.now.r.now) (coefs F.Field.places self.now.g2.now))) × (Below F.Field.ops n ((poly F.Field.ops).mul (coefs F.Field.places rows.now.b.now) (coefs F.Field.places self.now.g1.now))) }
+        ensures { (x : F) → (value F.Field.ops F.Field.places out.new) x ≡ candidate F.Field.ops (value F.Field.ops F.Field.places self.now.g1.now) (value F.Field.ops F.Field.places self.now.g2.now) (value F.Field.ops F.Field.places rows.now.r.now) (value F.Field.ops F.Field.places rows.now.b.now) x }
     {
-        product::<F>(wide.whole, a, self.g2);
-        product::<F>(wide.quot, b, self.g1);
+        product::<F>(wide.whole, rows.r, self.g2);
+        product::<F>(wide.quot, rows.b, self.g1);
         join_squares::<F>(wide.whole, wide.quot, out, n);
     }
 }
@@ -165,25 +164,25 @@ fn find_locator<F: BinaryField>(
     g: &Modulus<'_, F>,
     s: &[u16],
     out: &mut [u16],
-    by: &mut Divided<'_>,
+    stages: &mut Stages<'_>,
     roots: &mut Roots<'_>,
     rows: &mut Rows<'_>,
     wide: &mut Wide<'_>,
 ) -> Option<()>
     requires code { (length g.now.p.now ≡ g.now.n + 1) × ((length s.now ≡ g.now.n) × (((coefs F.Field.places g.now.p.now) g.now.n ≡ F.Field.ops.one) × ((2 ≤ g.now.n) × (length out.old ≡ 2 * (g.now.n / 2 + 1))))) }
-    requires fits { (length by.old.v.now ≡ g.now.n + 1) × ((length roots.old.even.now ≡ g.now.n + 1) × ((length rows.old.s.now ≡ g.now.n + 1) × (length wide.old.whole.now ≡ 2 * (g.now.n + 1)))) }
+    requires fits { (length stages.old.v.now ≡ g.now.n + 1) × ((length roots.old.even.now ≡ g.now.n + 1) × ((length rows.old.s.now ≡ g.now.n + 1) × (length wide.old.whole.now ≡ 2 * (g.now.n + 1)))) }
     ensures { (zs sup : List F) → GoppaCode F.Field.ops g.now.n (value F.Field.ops F.Field.places g.now.p.now) zs sup → MatchOption result (NoErrors F.Field.ops g.now.n (value F.Field.ops F.Field.places s.now) zs sup) (λ _. Locates F.Field.ops g.now.n (value F.Field.ops F.Field.places s.now) zs sup (value F.Field.ops F.Field.places out.new)) }
 {
     let t = g.n;
-    let (n1, n2) = by.prepare(g, s, rows, wide);
+    let (n1, n2) = stages.prepare(g, s, rows, wide);
     if !within_bounds(t, n1, n2) {
         return None;
     }
-    let by = &*by;
-    let g12 = by.modulus::<F>(t - (n1 + n2));
-    by.key_root(&g12, roots, rows, wide);
+    let stages = &*stages;
+    let g12 = stages.modulus::<F>(t - (n1 + n2));
+    stages.key_root(&g12, roots, rows, wide);
     g12.key_solution(rows, t / 2 - n2 + 1);
-    by.join_parts::<F>(rows.r, rows.b, out, wide, t / 2 + 1);
+    stages.join_parts::<F>(rows, out, wide, t / 2 + 1);
     Some(())
 }
 
@@ -223,7 +222,7 @@ pub fn locate_within<F: BinaryField>(
         },
         s,
         out,
-        &mut Divided {
+        &mut Stages {
             v,
             g1,
             g2,

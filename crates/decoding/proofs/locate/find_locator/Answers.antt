@@ -1,4 +1,4 @@
-use Rattle.std.proofs.Common.{rules, suc, ◌+◌, ◌-◌, ◌/◌, ◌<◌, ◌≤◌, arith}
+use Rattle.std.proofs.Common.{suc, ◌+◌, ◌-◌, ◌/◌, ◌<◌, ◌≤◌, arith}
 use Rattle.polys.specs.Coefs.{coefs}
 use Rattle.polys.specs.Values.{value}
 use Rattle.polys.proofs.Rule.{below_mul}

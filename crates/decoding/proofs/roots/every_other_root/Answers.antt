@@ -1,4 +1,4 @@
-use Rattle.std.proofs.Common.{rules, replicate, drop, ◌≡◌, ℕ, ◌+◌, ◌-◌, ◌*◌, ◌/◌, ◌%◌, ◌<◌, ◌++◌, List, length, get_or, sym, ap, ◌∙◌, ap₂, arith, length-take, get_or-drop}
+use Rattle.std.proofs.Common.{rules, replicate, drop, ◌≡◌, ◌+◌, ◌-◌, ◌*◌, ◌/◌, ◌%◌, ◌++◌, length, get_or, sym, ap, ◌∙◌, ap₂, arith, length-take, get_or-drop}
 use native.Mathlib.Decide.{dec_lt}
 use Rattle.std.proofs.lemmas.List.{get_or_append_left, get_or-append_right}
 use Rattle.algebra.proofs.Rings.{ring_laws, mul_zero}

@@ -1,8 +1,8 @@
-use Rattle.std.proofs.Common.{rules, ℕ, List, subst}
+use Rattle.std.proofs.Common.{ℕ, List, subst}
 use Rattle.algebra.specs.Series.{Series}
 use Rattle.polys.specs.Coefs.{coefs}
 use Rattle.polys.specs.Euclid.{Gcd}
-use Rattle.decoding.proofs.States.{divisor_of, divisor_degree}
+use Rattle.decoding.proofs.States.{divisor_of}
 use Rattle.decoding.proofs.steps.Modulus.common_divisor.Goals as goal
 
 pub returns-clause-divisor : goal.returns-clause-divisor

@@ -1,4 +1,4 @@
-use Rattle.std.proofs.Common.{rules, ℕ, List, subst}
+use Rattle.std.proofs.Common.{ℕ, List, subst}
 use Rattle.polys.specs.Values.{value}
 use Rattle.patterson.specs.Euclid.{EuclidState}
 use Rattle.decoding.proofs.States.{state_of}

@@ -1,11 +1,11 @@
-use Rattle.std.proofs.Common.{◌+◌, ap, ◌∙◌, arith, rules}
+use Rattle.std.proofs.Common.{◌+◌, ap, ◌∙◌, arith}
 use Rattle.algebra.specs.Series.{Degree}
 use Rattle.polys.specs.Coefs.{coefs}
 use Rattle.polys.specs.Values.{value}
 use Rattle.polys.proofs.Lists.{below_list}
 use Rattle.decoding.proofs.Values.{poly_of, value_times}
 use Rattle.decoding.proofs.States.{degree_mul}
-use Rattle.decoding.proofs.locate.Divided.prepare.Goals as goal
+use Rattle.decoding.proofs.locate.Stages.prepare.Goals as goal
 
 pub common_divisor-n1-requires-clause-under : goal.common_divisor-n1-requires-clause-under
 common_divisor-n1-requires-clause-under g c = λ j h. below_list g.met.F.Field.laws g.F.Field.places g.met.F.Field.origin c.args.s.now j (omega arith)

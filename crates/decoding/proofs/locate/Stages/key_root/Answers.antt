@@ -1,6 +1,6 @@
-use Rattle.std.proofs.Common.{rules, ◌≡◌, sym, ap, ◌∙◌}
+use Rattle.std.proofs.Common.{◌≡◌, sym, ap, ◌∙◌}
 use Rattle.polys.specs.Values.{value}
-use Rattle.decoding.proofs.locate.Divided.key_root.Goals as goal
+use Rattle.decoding.proofs.locate.Stages.key_root.Goals as goal
 
 pub returns-clause-root : goal.returns-clause-root
 returns-clause-root g c =

@@ -1,7 +1,7 @@
 use Rattle.std.proofs.Common.{sym, ◌∙◌, subst, ap₂, rules}
 use Rattle.algebra.specs.Series.{Series, Below}
 use Rattle.decoding.proofs.Values.{value_times}
-use Rattle.decoding.proofs.locate.Divided.join_parts.Goals as goal
+use Rattle.decoding.proofs.locate.Stages.join_parts.Goals as goal
 
 pub join_squares-requires : goal.join_squares-requires
 join_squares-requires g c =
@@ -24,5 +24,5 @@ returns g c =
     λ x.
     c.join_squares.ensures x
     ∙ ap₂ (λ y w. f.add (f.mul y y) (f.mul x (f.mul w w)))
-    (value_times k pl z c.product.new.out c.args.a.now c.args.self.now.g2.now c.product.ensures.is x)
-    (value_times k pl z c.product-2.new.out c.args.b.now c.args.self.now.g1.now c.product-2.ensures.is x)
+    (value_times k pl z c.product.new.out c.args.rows.now.r.now c.args.self.now.g2.now c.product.ensures.is x)
+    (value_times k pl z c.product-2.new.out c.args.rows.now.b.now c.args.self.now.g1.now c.product-2.ensures.is x)
