@@ -12,7 +12,7 @@ ghost use Rattle.patterson.specs.Decoder.{candidate};
 ghost use Rattle.decoding.specs.Stages.{Ready, Locates, NoErrors};
 
 use crate::memory::{Roots, Rows, Wide};
-use crate::steps::{Modulus, quotient, shifted_syndrome};
+use crate::steps::{Modulus, quotient};
 use fields::field::{BinaryField, Field};
 use fields::read;
 use polys::arithmetic::product;
@@ -61,10 +61,11 @@ impl Stages<'_> {
         ensures ready { Ready F.Field.ops F.Field.places g.now.n g.now.p.now s.now self.new.v.now self.new.g1.now self.new.g2.now self.new.s1.now self.new.v2.now self.new.g12.now result.0 result.1 }
         ensures kept { (length self.new.v.now ≡ length self.old.v.now) × ((length rows.new.s.now ≡ length rows.old.s.now) × (length wide.new.whole.now ≡ length wide.old.whole.now)) }
     {
+        // Out of the struct while they are read: a proof knows a field's slice at its first reading alone.
         let v = &mut *self.v;
         let g1 = &mut *self.g1;
         let g2 = &mut *self.g2;
-        shifted_syndrome::<F>(s, g.p, v, g.n);
+        g.shifted_syndrome(s, v);
         let n1 = g.common_divisor(s, g1, rows);
         let n2 = g.common_divisor(v, g2, rows);
         quotient::<F>(s, g1, self.s1, rows.r, n1);

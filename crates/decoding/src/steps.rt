@@ -24,20 +24,6 @@ pub fn copy<F: BinaryField>(p: &[u16], into: &mut [u16])
     add::<F>(into, p);
 }
 
-// Writes 1 + X·s, reduced modulo g, which is monic of degree t.
-pub fn shifted_syndrome<F: BinaryField>(s: &[u16], g: &[u16], v: &mut [u16], t: usize)
-    requires fits { (length s.now ≡ t) × ((length g.now ≡ t + 1) × (length v.old ≡ t + 1)) }
-    requires monic { (coefs F.Field.places g.now) t ≡ F.Field.ops.one }
-    ensures under { Below F.Field.ops t (coefs F.Field.places v.new) }
-    ensures values { (x : F) → (value F.Field.ops F.Field.places g.now) x ≡ F.Field.ops.zero → (value F.Field.ops F.Field.places v.new) x ≡ shifted F.Field.ops (value F.Field.ops F.Field.places s.now) x }
-{
-    v.fill(0);
-    v[0] = F::one().place();
-    add_scaled(v, s, F::one(), 1);
-    let c = read::<F>(v[t]);
-    add_multiple(v, g, c);
-}
-
 // The quotient and the remainder of p by d, of degree n.
 pub fn quotient<F: BinaryField>(p: &[u16], d: &[u16], out: &mut [u16], rest: &mut [u16], n: usize)
     requires fits { (length p.now ≤ length rest.old) × (length rest.old ≤ length out.old) }
@@ -61,6 +47,20 @@ pub struct Modulus<'a, F: BinaryField> {
 }
 
 impl<F: BinaryField> Modulus<'_, F> {
+    // Writes 1 + X·s, reduced modulo the polynomial, which is monic.
+    pub fn shifted_syndrome(&self, s: &[u16], v: &mut [u16])
+        requires fits { (length s.now ≡ self.now.n) × ((length self.now.p.now ≡ self.now.n + 1) × (length v.old ≡ self.now.n + 1)) }
+        requires monic { (coefs F.Field.places self.now.p.now) self.now.n ≡ F.Field.ops.one }
+        ensures under { Below F.Field.ops self.now.n (coefs F.Field.places v.new) }
+        ensures values { (x : F) → (value F.Field.ops F.Field.places self.now.p.now) x ≡ F.Field.ops.zero → (value F.Field.ops F.Field.places v.new) x ≡ shifted F.Field.ops (value F.Field.ops F.Field.places s.now) x }
+    {
+        v.fill(0);
+        v[0] = F::one().place();
+        add_scaled(v, s, F::one(), 1);
+        let c = read::<F>(v[self.n]);
+        add_multiple(v, self.p, c);
+    }
+
     // The greatest common divisor with q, of a lower degree. The result is its degree.
     pub fn common_divisor(&self, q: &[u16], out: &mut [u16], rows: &mut Rows<'_>) -> usize
         requires fits { (length q.now ≤ length self.now.p.now) × ((length out.old ≡ length self.now.p.now) × (length rows.old.s.now ≡ length self.now.p.now)) }

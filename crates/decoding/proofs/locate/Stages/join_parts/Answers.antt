@@ -1,19 +1,12 @@
-use Rattle.std.proofs.Common.{sym, ◌∙◌, subst, ap₂, rules}
+use Rattle.std.proofs.Common.{sym, ◌∙◌, subst, ap₂}
 use Rattle.algebra.specs.Series.{Series, Below}
 use Rattle.decoding.proofs.Values.{value_times}
 use Rattle.decoding.proofs.locate.Stages.join_parts.Goals as goal
 
-pub join_squares-requires : goal.join_squares-requires
-join_squares-requires g c =
-    let f = g.F.Field.ops in
-    let n = c.args.n in
-    record {
-      fits = search rules;
-      under = (
-        subst (λ (s : Series g.row.F.Denot). Below f n s) (sym c.product.ensures.is) c.requires.under.0,
-        subst (λ (s : Series g.row.F.Denot). Below f n s) (sym c.product-2.ensures.is) c.requires.under.1,
-      );
-    }
+pub join_squares-requires-clause-under : goal.join_squares-requires-clause-under
+join_squares-requires-clause-under g c =
+    let below : Series g.row.F.Denot → Type 0 = Below g.F.Field.ops c.args.n in
+    (subst below (sym c.product.ensures.is) c.requires.under.0, subst below (sym c.product-2.ensures.is) c.requires.under.1)
 
 pub returns : goal.returns
 returns g c =
