@@ -2,5 +2,6 @@
 #![tactic(auto)]
 
 pub mod locate;
+pub mod memory;
 pub mod roots;
 pub mod steps;

@@ -1,0 +1,36 @@
+use Rattle.std.proofs.Common.{◌≡◌, ℕ, suc, ◌+◌, ◌*◌, ◌/◌, sym, ap, ◌∙◌, arith}
+use Rattle.polys.specs.Coefs.{coefs}
+use Rattle.polys.specs.Values.{value}
+use Rattle.patterson.proofs.Numbered.{same_from}
+use Rattle.decoding.proofs.Values.{poly_of}
+use Rattle.decoding.proofs.Squares.{roots_below}
+use Rattle.decoding.proofs.OddPart.{odd_some, root_by}
+use Rattle.decoding.proofs.steps.Modulus.root_of_x.Goals as goal
+
+pub inverse_modulo-requires-clause-under : goal.inverse_modulo-requires-clause-under
+inverse_modulo-requires-clause-under g c =
+    let pl = g.F.Field.places in
+    let n = c.args.self.now.n in
+    let p = c.args.self.now.p.now in
+    let b = c.roots_apart.new.odd in
+    roots_below g.met.F.Field.laws (same_from pl) (suc n) n 1 (coefs pl p) (coefs pl b) c.args.self.now.degree.1 c.roots_apart.ensures.odd (omega arith)
+
+pub returns-clause-root : goal.returns-clause-root
+returns-clause-root g c =
+    let k = g.met.F.Field.laws in
+    let f = g.F.Field.ops in
+    let pl = g.F.Field.places in
+    let z = g.met.F.Field.origin in
+    let n = c.args.self.now.n in
+    let p = c.args.self.now.p.now in
+    let a = c.roots_apart.new.even in
+    let b = c.roots_apart.new.odd in
+    let w = c.inverse_modulo.new.rows.b.now in
+    let plain : (j : ℕ) → 2 * j ≡ 2 * j + 0 = λ j. omega arith in
+    let is = c.roots_apart.ensures.values in
+    let pa = poly_of k pl z a (suc (n / 2)) (roots_below k (same_from pl) (suc n) (suc (n / 2)) 0 (coefs pl p) (coefs pl a) c.args.self.now.degree.1 (λ j. c.roots_apart.ensures.even j ∙ ap (coefs pl p) (plain j)) (omega arith)) in
+    let pb = poly_of k pl z b (suc n / 2) (roots_below k (same_from pl) (suc n) (suc n / 2) 1 (coefs pl p) (coefs pl b) c.args.self.now.degree.1 c.roots_apart.ensures.odd (omega arith)) in
+    λ zs sp x at.
+    root_by k x (value f pl a x) (value f pl b x) (value f pl w x) (value f pl c.product_modulo.new.out x) (sym (is x) ∙ at)
+    (c.inverse_modulo.ensures.values zs sp (odd_some k (same_from pl) n (value f pl p) (value f pl a) (value f pl b) zs sp is pa pb (omega arith)) x at)
+    (c.product_modulo.ensures.values x at)
