@@ -7,6 +7,8 @@ ghost use Rattle.bits.specs.Reduced.{reduced_of};
 ghost use Rattle.bits.specs.Kernels.{independent};
 ghost use Rattle.keys.specs.Secret.{written, public_key_of};
 
+use fields::field::Field;
+use goppa::code::Code;
 use levels::Sizes;
 use levels::guards::Place;
 use matrices::{copy_columns, echelon};
@@ -59,53 +61,29 @@ fn write_rest(sizes: &Sizes, hp: &[u8], mixing: &Seed, decoy: &Seed, out: &mut [
 }
 
 // Writes the secret key with these parts; the matrix is in front of HP.
-fn write_secret(
+pub fn write_secret<F: Field>(
     sizes: &Sizes,
-    support: &[Place],
-    g: &[Place],
+    code: &Code<'_, F>,
     hp: &[u8],
     mixing: &Seed,
     decoy: &Seed,
     out: &mut [u8],
 )
     requires long { (sizes.now.rows * sizes.now.vector ≤ length hp.now) × (length out.old ≡ sizes.now.secret_key) }
-    requires code { (length support.now ≡ sizes.now.n) × (length g.now ≡ sizes.now.t + 1) }
-    ensures { out.new ≡ written sizes.now support.now g.now (matrix sizes.now.vector hp.now) mixing.now decoy.now }
+    requires code { (length code.now.support.now ≡ sizes.now.n) × (length code.now.g.now ≡ sizes.now.t + 1) }
+    ensures { out.new ≡ written sizes.now code.now.support.now code.now.g.now (matrix sizes.now.vector hp.now) mixing.now decoy.now }
 {
     let at = 2 * sizes.n + 2 * sizes.t;
-    write_elements(support, &g[0..sizes.t], &mut out[0..at]);
+    write_elements(code.support, &code.g[0..sizes.t], &mut out[0..at]);
     write_rest(sizes, hp, mixing, decoy, &mut out[at..]);
 }
 
 // Writes M, where [I | M] is the reduced row echelon form of HP, whose first columns are
 // independent. What `hp` holds then is of no use.
-fn write_public(sizes: &Sizes, hp: &mut [u8], out: &mut [u8])
+pub fn write_public(sizes: &Sizes, hp: &mut [u8], out: &mut [u8])
     requires long { (sizes.now.rows * sizes.now.vector ≤ length hp.old) × (length out.old ≡ sizes.now.public_key) }
     requires front { independent sizes.now.rows (matrix sizes.now.vector hp.old) ≡ true }
-    ensures { out.new ≡ matrix_bytes sizes.now.rows (sizes.now.vector - sizes.now.body) (reduced_of sizes.now.rows (matrix sizes.now.vector hp.old)) }
+    ensures { out.new ≡ public_key_of sizes.now (reduced_of sizes.now.rows (matrix sizes.now.vector hp.old)) }
 {
     let _ = echelon(hp, sizes.body, sizes.vector - sizes.body, out);
-}
-
-// Writes both keys from HP, whose first columns are independent. S⁻¹ is taken before HP is reduced;
-// what `hp` holds then is of no use.
-pub fn write_keys(
-    sizes: &Sizes,
-    support: &[Place],
-    g: &[Place],
-    hp: &mut [u8],
-    mixing: &Seed,
-    decoy: &Seed,
-    public_key: &mut [u8],
-    secret_key: &mut [u8],
-)
-    requires hp { sizes.now.rows * sizes.now.vector ≤ length hp.old }
-    requires code { (length support.now ≡ sizes.now.n) × (length g.now ≡ sizes.now.t + 1) }
-    requires keys { (length public_key.old ≡ sizes.now.public_key) × (length secret_key.old ≡ sizes.now.secret_key) }
-    requires front { independent sizes.now.rows (matrix sizes.now.vector hp.old) ≡ true }
-    ensures public { public_key.new ≡ public_key_of sizes.now (reduced_of sizes.now.rows (matrix sizes.now.vector hp.old)) }
-    ensures secret { secret_key.new ≡ written sizes.now support.now g.now (matrix sizes.now.vector hp.old) mixing.now decoy.now }
-{
-    write_secret(sizes, support, g, hp, mixing, decoy, secret_key);
-    write_public(sizes, hp, public_key);
 }
