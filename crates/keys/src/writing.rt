@@ -7,6 +7,7 @@ ghost use Rattle.bits.specs.Reduced.{reduced_of};
 ghost use Rattle.bits.specs.Kernels.{independent};
 ghost use Rattle.keys.specs.Secret.{written, public_key_of};
 
+use bits::{join, write_words};
 use fields::field::Field;
 use goppa::code::Code;
 use levels::Sizes;
@@ -22,32 +23,14 @@ fn write_front(m: &[u8], width: usize, rows: usize, out: &mut [u8], some: usize)
     copy_columns(m, width, rows, 0, out, some);
 }
 
-// Writes one list after the other.
-fn write_both(first: &[u8], second: &[u8], out: &mut [u8])
-    requires { length out.old ≡ length first.now + length second.now }
-    ensures { out.new ≡ first.now ++ second.now }
-{
-    let at = first.len();
-    out[0..at].copy_from_slice(first);
-    out[at..].copy_from_slice(second);
-}
-
-// Writes two seeds.
-fn write_seeds(mixing: &Seed, decoy: &Seed, out: &mut [u8])
-    requires { length out.old ≡ 64 }
-    ensures { out.new ≡ mixing.now ++ decoy.now }
-{
-    write_both(mixing, decoy, out);
-}
-
 // Writes the support and the coefficients of g but for the last.
 fn write_elements(support: &[Place], g: &[Place], out: &mut [u8])
     requires { length out.old ≡ 2 * length support.now + 2 * length g.now }
     ensures { out.new ≡ word_bytes support.now ++ word_bytes g.now }
 {
     let at = 2 * support.len();
-    bits::write_words(support, &mut out[0..at]);
-    bits::write_words(g, &mut out[at..]);
+    write_words(support, &mut out[0..at]);
+    write_words(g, &mut out[at..]);
 }
 
 // Writes the matrix S⁻¹, which stands in front of HP, and the seeds.
@@ -57,7 +40,7 @@ fn write_rest(sizes: &Sizes, hp: &[u8], mixing: &Seed, decoy: &Seed, out: &mut [
 {
     let at = sizes.rows * sizes.body;
     write_front(hp, sizes.vector, sizes.rows, &mut out[0..at], sizes.body);
-    write_seeds(mixing, decoy, &mut out[at..]);
+    join(mixing, decoy, &mut out[at..]);
 }
 
 // Writes the secret key with these parts; the matrix is in front of HP.
@@ -85,5 +68,5 @@ pub fn write_public(sizes: &Sizes, hp: &mut [u8], out: &mut [u8])
     requires front { independent sizes.now.rows (matrix sizes.now.vector hp.old) ≡ true }
     ensures { out.new ≡ public_key_of sizes.now (reduced_of sizes.now.rows (matrix sizes.now.vector hp.old)) }
 {
-    let _ = echelon(hp, sizes.body, sizes.vector - sizes.body, out);
+    echelon(hp, sizes.body, sizes.vector - sizes.body, out).unwrap();
 }

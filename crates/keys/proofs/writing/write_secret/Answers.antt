@@ -2,7 +2,7 @@ use Rattle.std.proofs.Common.{ℕ, ◌+◌, ◌-◌, ◌*◌, List, ◌++◌, ta
 use Rattle.bits.specs.Packed.{matrix}
 use Rattle.bits.specs.Words.{word_bytes}
 use Rattle.bits.specs.Rows.{matrix_bytes}
-use Rattle.sealing.proofs.Tickets.{two_copies}
+use Rattle.bits.proofs.Joined.{two_copies}
 use Rattle.keys.specs.Secret.{written}
 use Rattle.keys.proofs.writing.write_secret.Goals as goal
 
