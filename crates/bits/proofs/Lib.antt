@@ -3,6 +3,7 @@ pub mod Sums
 pub mod Places
 pub mod Packing
 pub mod Words
+pub mod Joined
 pub mod Selections
 pub mod Rows
 pub mod Reduction

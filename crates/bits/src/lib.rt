@@ -2,7 +2,7 @@
 // and `add_bit` and what they cite are all that knows where in its byte a bit lies.
 #![tactic(auto)]
 
-ghost use Rattle.std.specs.Prelude.{◌≡◌, ℕ, ◌+◌, ◌*◌, ◌/◌, ◌%◌, ◌<◌, length, slice_index};
+ghost use Rattle.std.specs.Prelude.{◌≡◌, ℕ, ◌+◌, ◌*◌, ◌/◌, ◌%◌, ◌<◌, ◌++◌, length, slice_index};
 ghost use Rattle.bits.specs.Packed.{power_of, vector, BitAdded};
 ghost use Rattle.bits.specs.Words.{word, word_bytes};
 ghost use Rattle.bits.specs.Kernels.{ProductBack, ColumnBack, Injective, OnlyOne, OnlyBody, NoPivot, NotBoth, Decides, FrontDecides, RankOnce, FullRank, SmallRank};
@@ -52,6 +52,16 @@ pub fn write_words(words: &[u16], out: &mut [u8])
         out[2 * i] = high;
         out[2 * i + 1] = low;
     }
+}
+
+// Writes one list of bytes after the other.
+pub fn join(first: &[u8], second: &[u8], out: &mut [u8])
+    requires { length out.old ≡ length first.now + length second.now }
+    ensures { out.new ≡ first.now ++ second.now }
+{
+    let at = first.len();
+    out[..at].copy_from_slice(first);
+    out[at..].copy_from_slice(second);
 }
 
 // What a matrix that begins with the unit matrix says of another with the same kernel.

@@ -1,5 +1,5 @@
 // The candidate: the vector of the zeros of a locator in the support, and the tests of its weight and its syndrome.
-ghost use Rattle.std.specs.Prelude.{◌≡◌, ℕ, ◌+◌, ◌*◌, ◌<◌, ◌≤◌, true, false, length, if◌then◌else◌, Decides, ◌==◌, ◌≢◌, slice_index};
+ghost use Rattle.std.specs.Prelude.{◌≡◌, ℕ, ◌+◌, ◌*◌, ◌<◌, ◌≤◌, true, false, length, if◌then◌else◌, Decides, ◌==◌, slice_index};
 ghost use Rattle.bits.specs.Packed.{vector};
 ghost use Rattle.bits.specs.Vectors.{weight};
 ghost use Rattle.matrices.specs.Columns.{bits_of};
@@ -11,8 +11,7 @@ ghost use Rattle.decoder.specs.Errors.{ErrorOf};
 
 use bits::{add_bit, bit};
 use fields::field::{BinaryField, Field};
-use fields::read;
-use goppa::columns::column;
+use goppa::code::Code;
 use polys::arithmetic::add;
 use polys::values::values_at;
 
@@ -42,55 +41,51 @@ pub fn weight_of(v: &[u8], n: usize) -> usize
     ones
 }
 
-// Adds the column of an element, where it is chosen, to a polynomial; g is not zero at the element.
-fn add_chosen<F: BinaryField>(g: &[u16], x: u16, chosen: bool, sum: &mut [u16], col: &mut [u16])
-    requires fits { (length g.now ≡ length sum.old + 1) × ((length col.old ≡ length sum.old) × (1 ≤ length sum.old)) }
-    requires off { (value F.Field.ops F.Field.places g.now) (F.Field.places.at x) ≢ F.Field.ops.zero }
-    ensures sum { (r : ℕ) → r < length sum.old → (coefs F.Field.places sum.new) r ≡ F.Field.ops.add ((coefs F.Field.places sum.old) r) (if chosen then F.Field.places.at (column_place F.Field.ops F.Field.places (length sum.old) g.now x r) else F.Field.ops.zero) }
+// Adds the column of an entry of the support, where it is chosen, to a polynomial.
+fn add_chosen<F: BinaryField>(
+    code: &Code<'_, F>,
+    j: usize,
+    chosen: bool,
+    sum: &mut [u16],
+    col: &mut [u16],
+)
+    requires { (length code.now.g.now ≡ length sum.old + 1) × ((length col.old ≡ length sum.old) × ((1 ≤ length sum.old) × (j < length code.now.support.now))) }
+    ensures sum { (r : ℕ) → r < length sum.old → (coefs F.Field.places sum.new) r ≡ F.Field.ops.add ((coefs F.Field.places sum.old) r) (if chosen then F.Field.places.at (column_place F.Field.ops F.Field.places (length sum.old) code.now.g.now (slice_index code.now.support.now j) r) else F.Field.ops.zero) }
     ensures placed { Placed F.Field.BITS sum.old → Placed F.Field.BITS sum.new }
 {
     if !chosen {
         return;
     }
-    let _ = column(g, read::<F>(x), col);
+    code.column(j, col);
     add::<F>(sum, col);
 }
 
 // Writes the sum of the columns that a vector selects.
-pub fn add_columns<F: BinaryField>(
-    g: &[u16],
-    support: &[u16],
-    e: &[u8],
-    sum: &mut [u16],
-    col: &mut [u16],
-)
-    requires fits { (length g.now ≡ length sum.old + 1) × ((length col.old ≡ length sum.old) × ((1 ≤ length sum.old) × (length support.now ≤ 8 * length e.now))) }
-    requires off { (j : ℕ) → j < length support.now → (value F.Field.ops F.Field.places g.now) (F.Field.places.at (slice_index support.now j)) ≢ F.Field.ops.zero }
-    ensures { (r : ℕ) → r < length sum.old → slice_index sum.new r ≡ F.Field.places.num (column_sum F.Field.ops F.Field.places (length sum.old) g.now support.now (length support.now) (vector e.now) r) }
+pub fn add_columns<F: BinaryField>(code: &Code<'_, F>, e: &[u8], sum: &mut [u16], col: &mut [u16])
+    requires { (length code.now.g.now ≡ length sum.old + 1) × ((length col.old ≡ length sum.old) × ((1 ≤ length sum.old) × (length code.now.support.now ≤ 8 * length e.now))) }
+    ensures { (r : ℕ) → r < length sum.old → slice_index sum.new r ≡ F.Field.places.num (column_sum F.Field.ops F.Field.places (length sum.old) code.now.g.now code.now.support.now (length code.now.support.now) (vector e.now) r) }
 {
     sum.fill(0);
-    for (j, &x) in support.iter().enumerate() {
-        add_chosen::<F>(g, x, bit(e, j), sum, col);
+    for j in 0..code.support.len() {
+        add_chosen(code, j, bit(e, j), sum, col);
     }
 }
 
 // Whether a vector is an error vector for the syndrome whose coefficients are in s: both its weight and its syndrome are tested.
 pub fn is_error<F: BinaryField>(
-    g: &[u16],
-    support: &[u16],
+    code: &Code<'_, F>,
     s: &[u16],
     e: &[u8],
     sum: &mut [u16],
     col: &mut [u16],
 ) -> bool
-    requires fits { (length g.now ≡ length s.now + 1) × ((length sum.old ≡ length s.now) × ((length col.old ≡ length s.now) × ((1 ≤ length s.now) × (length support.now ≡ 8 * length e.now)))) }
-    requires off { (j : ℕ) → j < length support.now → (value F.Field.ops F.Field.places g.now) (F.Field.places.at (slice_index support.now j)) ≢ F.Field.ops.zero }
+    requires fits { (length code.now.g.now ≡ length s.now + 1) × ((length sum.old ≡ length s.now) × ((length col.old ≡ length s.now) × ((1 ≤ length s.now) × (length code.now.support.now ≡ 8 * length e.now)))) }
     requires syndrome { (Placed F.Field.BITS s.now) × (0 < F.Field.BITS) }
-    ensures { Decides result (ErrorOf F.Field.ops F.Field.places (length s.now) g.now support.now (bits_of F.Field.BITS s.now) (vector e.now)) }
+    ensures { Decides result (ErrorOf F.Field.ops F.Field.places (length s.now) code.now.g.now code.now.support.now (bits_of F.Field.BITS s.now) (vector e.now)) }
 {
-    if weight_of(e, support.len()) != s.len() {
+    if weight_of(e, code.support.len()) != s.len() {
         return false;
     }
-    add_columns::<F>(g, support, e, sum, col);
+    add_columns(code, e, sum, col);
     &*sum == s
 }

@@ -15,29 +15,29 @@ pub mod syndromes;
 use candidates::{is_error, mark_zeros};
 use decoding::locate::locate_within;
 use fields::field::{BinaryField, Field};
+use goppa::code::Code;
 use syndromes::read_syndrome;
 
 // Writes the one error vector of the syndrome whose coefficients are in s, where it has one; zeros otherwise. `l` is for the locator.
 fn decode_places<F: BinaryField>(
-    g: &[u16],
-    support: &[u16],
+    code: &Code<'_, F>,
     s: &[u16],
     l: &mut [u16],
     work: &mut [u16],
     out: &mut [u8],
     t: usize,
 ) -> Option<()>
-    requires code { (((zeros : List ℕ) × CodeOf F.Field.ops F.Field.places t g.now support.now zeros)) × ((length g.now ≡ t + 1) × ((2 ≤ t) × (1 ≤ length support.now))) }
+    requires code { (((zeros : List ℕ) × CodeOf F.Field.ops F.Field.places t code.now.g.now code.now.support.now zeros)) × ((length code.now.g.now ≡ t + 1) × ((2 ≤ t) × (1 ≤ length code.now.support.now))) }
     requires syndrome { (length s.now ≡ t) × ((Placed F.Field.BITS s.now) × (0 < F.Field.BITS)) }
-    requires fits { (length support.now ≡ 8 * length out.old) × ((length l.old ≡ 2 * (t / 2 + 1)) × ((length support.now ≤ length work.old) × (17 * (t + 1) ≤ length work.old))) }
-    ensures { MatchOption result (NoError F.Field.ops F.Field.places t g.now support.now (bits_of F.Field.BITS s.now) × (out.new ≡ replicate (length out.old) 0)) (λ _. OnlyError F.Field.ops F.Field.places t g.now support.now (bits_of F.Field.BITS s.now) (vector out.new)) }
+    requires fits { (length code.now.support.now ≡ 8 * length out.old) × ((length l.old ≡ 2 * (t / 2 + 1)) × ((length code.now.support.now ≤ length work.old) × (17 * (t + 1) ≤ length work.old))) }
+    ensures { MatchOption result (NoError F.Field.ops F.Field.places t code.now.g.now code.now.support.now (bits_of F.Field.BITS s.now) × (out.new ≡ replicate (length out.old) 0)) (λ _. OnlyError F.Field.ops F.Field.places t code.now.g.now code.now.support.now (bits_of F.Field.BITS s.now) (vector out.new)) }
 {
     out.fill(0);
-    locate_within::<F>(g, s, l, work, t)?;
-    mark_zeros::<F>(l, support, work, out);
+    locate_within::<F>(code.g, s, l, work, t)?;
+    mark_zeros::<F>(l, code.support, work, out);
     let (sum, rest) = work.split_at_mut(t);
     let (col, _) = rest.split_at_mut(t);
-    if !is_error::<F>(g, support, s, out, sum, col) {
+    if !is_error(code, s, out, sum, col) {
         out.fill(0);
         return None;
     }
@@ -46,21 +46,20 @@ fn decode_places<F: BinaryField>(
 
 // Whether a syndrome has an error vector: a vector of weight t whose sum of columns is the syndrome. There is one at most, and `out` then holds it; otherwise it holds zeros.
 pub fn decode<F: BinaryField>(
-    g: &[u16],
-    support: &[u16],
+    code: &Code<'_, F>,
     syndrome: &[u8],
     work: &mut [u16],
     out: &mut [u8],
     t: usize,
 ) -> Option<()>
-    requires code { (((zeros : List ℕ) × CodeOf F.Field.ops F.Field.places t g.now support.now zeros)) × ((length g.now ≡ t + 1) × ((2 ≤ t) × (1 ≤ length support.now))) }
+    requires code { (((zeros : List ℕ) × CodeOf F.Field.ops F.Field.places t code.now.g.now code.now.support.now zeros)) × ((length code.now.g.now ≡ t + 1) × ((2 ≤ t) × (1 ≤ length code.now.support.now))) }
     requires field { (0 < F.Field.BITS) × ((F.Field.BITS ≤ 16) × (F.Field.BITS * t < 2 ^ 32)) }
-    requires fits { (F.Field.BITS * t ≤ 8 * length syndrome.now) × (length support.now ≡ 8 * length out.old) }
-    requires work { (t + 2 * (t / 2 + 1) + length support.now ≤ length work.old) × (t + 2 * (t / 2 + 1) + 17 * (t + 1) ≤ length work.old) }
-    ensures { MatchOption result (NoError F.Field.ops F.Field.places t g.now support.now (vector syndrome.now) × (out.new ≡ replicate (length out.old) 0)) (λ _. OnlyError F.Field.ops F.Field.places t g.now support.now (vector syndrome.now) (vector out.new)) }
+    requires fits { (F.Field.BITS * t ≤ 8 * length syndrome.now) × (length code.now.support.now ≡ 8 * length out.old) }
+    requires work { (t + 2 * (t / 2 + 1) + length code.now.support.now ≤ length work.old) × (t + 2 * (t / 2 + 1) + 17 * (t + 1) ≤ length work.old) }
+    ensures { MatchOption result (NoError F.Field.ops F.Field.places t code.now.g.now code.now.support.now (vector syndrome.now) × (out.new ≡ replicate (length out.old) 0)) (λ _. OnlyError F.Field.ops F.Field.places t code.now.g.now code.now.support.now (vector syndrome.now) (vector out.new)) }
 {
     let (s, rest) = work.split_at_mut(t);
     let (l, rest) = rest.split_at_mut(2 * (t / 2 + 1));
     read_syndrome::<F>(syndrome, s);
-    decode_places::<F>(g, support, s, l, rest, out, t)
+    decode_places(code, s, l, rest, out, t)
 }

@@ -1,5 +1,5 @@
 -- Columns as bits.
-use Rattle.std.proofs.Common.{◌≡◌, ℕ, ◌+◌, ◌-◌, ◌*◌, ◌/◌, ◌%◌, ◌<◌, ◌≤◌, ◌&&◌, ltb, Option, Some, None, MatchOption, List, get_or, replicate, sym, refl, ap, ◌∙◌, inl, inr, mul_comm, arith}
+use Rattle.std.proofs.Common.{◌≡◌, ℕ, ◌+◌, ◌-◌, ◌*◌, ◌/◌, ◌%◌, ◌<◌, ◌≤◌, ◌&&◌, ltb, List, get_or, replicate, sym, refl, ap, ◌∙◌, inl, inr, mul_comm, arith}
 use Rattle.std.proofs.lemmas.Nat.{div_below}
 use Rattle.std.proofs.lemmas.List.{get_or-replicate, get_or_past, length-replicate}
 use Rattle.std.proofs.lemmas.Bool.{cases_lt, cases_eq, eq-eqb, ne_eqb, lt-ltb, le-ltb, le-leb}
@@ -21,10 +21,6 @@ module _ {A : Type 0} {m : ℕ} (f : Ops A) (pl : Places A m) (t : ℕ) (g q : L
   pub column_bits_lem : 0 < m → (i : ℕ) → i < m * t → bits_of m q i ≡ column_bits f pl t g x i
   unfolding bits_of column_bits
   column_bits_lem p i l = ap (λ y. number_bit y (i % m)) (place (i / m) (div_below i m t p (omega (arith, mul_comm m t))))
-
-pub sure : (o : Option (Unit {0})) (P Q : Type 0) → MatchOption o Q (λ _. P) → (Q → ⊥) → P
-sure (Some x) P Q p n = p
-sure None P Q q n = absurd (n q)
 
 -- the first c columns of B are those of M, and the others are zero
 pub WrittenColumns : ℕ → ℕ → ℕ → Matrix → Matrix → Type 0

@@ -1,13 +1,13 @@
 // The search for a usable mixing seed.
-ghost use Rattle.std.specs.Prelude.{◌≡◌, ℕ, ◌+◌, ◌*◌, ◌^◌, ◌<◌, ◌≤◌, length, ◌≢◌, slice_index};
+ghost use Rattle.std.specs.Prelude.{◌≡◌, ◌+◌, ◌*◌, ◌^◌, ◌<◌, ◌≤◌, length};
 ghost use Rattle.bits.specs.Kernels.{independent};
 ghost use Rattle.bits.specs.Search.{Found};
-ghost use Rattle.polys.specs.Values.{value};
 ghost use Rattle.shuffles.specs.Orders.{order};
 ghost use Rattle.goppa.specs.Matrix.{mixed_matrix};
 ghost use Rattle.keys.specs.Seeds.{seed_of, count_of};
 
 use fields::field::{BinaryField, Field};
+use goppa::code::Code;
 use goppa::mixed::write_mixed;
 use levels::guards::{Place, Position};
 use matrices::settle;
@@ -24,24 +24,23 @@ pub fn seed_at(seeds: &[u8], i: usize) -> &Seed
 // The number of the first usable seed. A seed is usable if the square matrix of 8 * body rows in
 // front of its HP has a pivot in each column.
 pub fn first_usable<F: BinaryField>(
-    g: &[Place],
-    support: &[Place],
+    code: &Code<'_, F>,
     seeds: &[u8],
     body: usize,
     column: &mut [Place],
     square: &mut [u8],
     positions: &mut [Position],
 ) -> Option<usize>
-    requires code { (length g.now ≡ length column.old + 1) × ((1 ≤ length column.old) × (((k : ℕ) → k < length support.now → value F.Field.ops F.Field.places g.now (F.Field.places.at (slice_index support.now k)) ≢ F.Field.ops.zero))) }
+    requires code { (length code.now.g.now ≡ length column.old + 1) × (1 ≤ length column.old) }
     requires field { (F.Field.BITS ≤ 16) × ((0 < F.Field.BITS) × (F.Field.BITS * length column.old ≡ 8 * body)) }
     requires rows { (8 * body * body ≤ length square.old) × (8 * body < 2 ^ 32) }
-    requires order { (length positions.old ≡ length support.now) × ((8 * body ≤ length positions.old) × (length positions.old < 2 ^ 32)) }
-    ensures { Found result (count_of seeds.now) (λ i. independent (8 * body) (mixed_matrix F.Field.ops F.Field.places (length column.old) g.now support.now (order (length positions.old) (seed_of seeds.now i)))) }
+    requires order { (length positions.old ≡ length code.now.support.now) × ((8 * body ≤ length positions.old) × (length positions.old < 2 ^ 32)) }
+    ensures { Found result (count_of seeds.now) (λ i. independent (8 * body) (mixed_matrix F.Field.ops F.Field.places (length column.old) code.now.g.now code.now.support.now (order (length positions.old) (seed_of seeds.now i)))) }
 {
     let rows = 8 * body;
     'seeds: for (i, seed) in seeds.as_chunks::<32>().0.iter().enumerate() {
         order_by(positions, seed);
-        write_mixed::<F>(g, support, positions, column, square, body);
+        write_mixed(code, positions, column, square, body);
         for c in 0..rows {
             if settle(square, body, rows, c, c).is_err() {
                 continue 'seeds;

@@ -20,43 +20,26 @@ use field8192::element::E8192;
 use levels::Level;
 use levels::faults::Fault;
 use levels::guards::{BytesGuard, PlacesGuard, PositionsGuard, Work};
-use making::make_with;
-use shuffles::Seed;
+use making::{Seeds, make_with};
 
 // Makes a pair over the field of a level, once the tests have passed.
 fn make_at(
     level: Level,
-    code_seed: &Seed,
-    mixing_seeds: &[u8],
-    decoy_seed: &Seed,
+    seeds: &Seeds<'_>,
     public_key: &mut [u8],
     secret_key: &mut [u8],
     work: &mut Work<'_>,
 ) -> Result<(), Fault>
     requires work { ((sizes_of level).work_bytes ≤ length work.old.bytes.now) × (((sizes_of level).work_places ≤ length work.old.places.now) × ((sizes_of level).work_places ≤ length work.old.positions.now)) }
     requires keys { (length public_key.old ≡ (sizes_of level).public_key) × (length secret_key.old ≡ (sizes_of level).secret_key) }
-    ensures answer { result ≡ tried_at (Ok level) code_seed.now mixing_seeds.now }
-    ensures gives { elim result [ Ok _ ↦ MadeAt (Ok level) code_seed.now mixing_seeds.now decoy_seed.now public_key.new secret_key.new | Err _ ↦ (public_key.new ≡ public_key.old) × (secret_key.new ≡ secret_key.old) ] }
+    ensures answer { result ≡ tried_at (Ok level) seeds.now.code.now seeds.now.mixing.now }
+    ensures gives { elim result [ Ok _ ↦ MadeAt (Ok level) seeds.now.code.now seeds.now.mixing.now seeds.now.decoy.now public_key.new secret_key.new | Err _ ↦ (public_key.new ≡ public_key.old) × (secret_key.new ≡ secret_key.old) ] }
 {
     let sizes = level.sizes();
     match level {
-        Level::Sample => make_with::<E64>(
-            &sizes,
-            code_seed,
-            mixing_seeds,
-            decoy_seed,
-            public_key,
-            secret_key,
-            work,
-        ),
+        Level::Sample => make_with::<E64>(&sizes, seeds, public_key, secret_key, work),
         Level::Level128 | Level::Level192 | Level::Level256 => make_with::<E8192>(
-            &sizes,
-            code_seed,
-            mixing_seeds,
-            decoy_seed,
-            public_key,
-            secret_key,
-            work,
+            &sizes, seeds, public_key, secret_key, work,
         ),
     }
 }
@@ -88,15 +71,12 @@ fn make_within(
     let Some(decoy_seed) = decoy_seed.as_array() else {
         unreachable!()
     };
-    make_at(
-        level,
-        code_seed,
-        mixing_seeds,
-        decoy_seed,
-        public_key,
-        secret_key,
-        work,
-    )
+    let seeds = Seeds {
+        code: code_seed,
+        mixing: mixing_seeds,
+        decoy: decoy_seed,
+    };
+    make_at(level, &seeds, public_key, secret_key, work)
 }
 
 // Makes a pair of keys from a code seed, a list of mixing seeds, of which the first usable one is

@@ -7,6 +7,9 @@ ghost use Rattle.bits.specs.Reduced.{reduced_of};
 ghost use Rattle.bits.specs.Kernels.{independent};
 ghost use Rattle.keys.specs.Secret.{written, public_key_of};
 
+use bits::{join, write_words};
+use fields::field::Field;
+use goppa::code::Code;
 use levels::Sizes;
 use levels::guards::Place;
 use matrices::{copy_columns, echelon};
@@ -20,32 +23,14 @@ fn write_front(m: &[u8], width: usize, rows: usize, out: &mut [u8], some: usize)
     copy_columns(m, width, rows, 0, out, some);
 }
 
-// Writes one list after the other.
-fn write_both(first: &[u8], second: &[u8], out: &mut [u8])
-    requires { length out.old ≡ length first.now + length second.now }
-    ensures { out.new ≡ first.now ++ second.now }
-{
-    let at = first.len();
-    out[0..at].copy_from_slice(first);
-    out[at..].copy_from_slice(second);
-}
-
-// Writes two seeds.
-fn write_seeds(mixing: &Seed, decoy: &Seed, out: &mut [u8])
-    requires { length out.old ≡ 64 }
-    ensures { out.new ≡ mixing.now ++ decoy.now }
-{
-    write_both(mixing, decoy, out);
-}
-
 // Writes the support and the coefficients of g but for the last.
 fn write_elements(support: &[Place], g: &[Place], out: &mut [u8])
     requires { length out.old ≡ 2 * length support.now + 2 * length g.now }
     ensures { out.new ≡ word_bytes support.now ++ word_bytes g.now }
 {
     let at = 2 * support.len();
-    bits::write_words(support, &mut out[0..at]);
-    bits::write_words(g, &mut out[at..]);
+    write_words(support, &mut out[0..at]);
+    write_words(g, &mut out[at..]);
 }
 
 // Writes the matrix S⁻¹, which stands in front of HP, and the seeds.
@@ -55,57 +40,33 @@ fn write_rest(sizes: &Sizes, hp: &[u8], mixing: &Seed, decoy: &Seed, out: &mut [
 {
     let at = sizes.rows * sizes.body;
     write_front(hp, sizes.vector, sizes.rows, &mut out[0..at], sizes.body);
-    write_seeds(mixing, decoy, &mut out[at..]);
+    join(mixing, decoy, &mut out[at..]);
 }
 
 // Writes the secret key with these parts; the matrix is in front of HP.
-fn write_secret(
+pub fn write_secret<F: Field>(
     sizes: &Sizes,
-    support: &[Place],
-    g: &[Place],
+    code: &Code<'_, F>,
     hp: &[u8],
     mixing: &Seed,
     decoy: &Seed,
     out: &mut [u8],
 )
     requires long { (sizes.now.rows * sizes.now.vector ≤ length hp.now) × (length out.old ≡ sizes.now.secret_key) }
-    requires code { (length support.now ≡ sizes.now.n) × (length g.now ≡ sizes.now.t + 1) }
-    ensures { out.new ≡ written sizes.now support.now g.now (matrix sizes.now.vector hp.now) mixing.now decoy.now }
+    requires code { (length code.now.support.now ≡ sizes.now.n) × (length code.now.g.now ≡ sizes.now.t + 1) }
+    ensures { out.new ≡ written sizes.now code.now.support.now code.now.g.now (matrix sizes.now.vector hp.now) mixing.now decoy.now }
 {
     let at = 2 * sizes.n + 2 * sizes.t;
-    write_elements(support, &g[0..sizes.t], &mut out[0..at]);
+    write_elements(code.support, &code.g[0..sizes.t], &mut out[0..at]);
     write_rest(sizes, hp, mixing, decoy, &mut out[at..]);
 }
 
 // Writes M, where [I | M] is the reduced row echelon form of HP, whose first columns are
 // independent. What `hp` holds then is of no use.
-fn write_public(sizes: &Sizes, hp: &mut [u8], out: &mut [u8])
+pub fn write_public(sizes: &Sizes, hp: &mut [u8], out: &mut [u8])
     requires long { (sizes.now.rows * sizes.now.vector ≤ length hp.old) × (length out.old ≡ sizes.now.public_key) }
     requires front { independent sizes.now.rows (matrix sizes.now.vector hp.old) ≡ true }
-    ensures { out.new ≡ matrix_bytes sizes.now.rows (sizes.now.vector - sizes.now.body) (reduced_of sizes.now.rows (matrix sizes.now.vector hp.old)) }
+    ensures { out.new ≡ public_key_of sizes.now (reduced_of sizes.now.rows (matrix sizes.now.vector hp.old)) }
 {
-    let _ = echelon(hp, sizes.body, sizes.vector - sizes.body, out);
-}
-
-// Writes both keys from HP, whose first columns are independent. S⁻¹ is taken before HP is reduced;
-// what `hp` holds then is of no use.
-pub fn write_keys(
-    sizes: &Sizes,
-    support: &[Place],
-    g: &[Place],
-    hp: &mut [u8],
-    mixing: &Seed,
-    decoy: &Seed,
-    public_key: &mut [u8],
-    secret_key: &mut [u8],
-)
-    requires hp { sizes.now.rows * sizes.now.vector ≤ length hp.old }
-    requires code { (length support.now ≡ sizes.now.n) × (length g.now ≡ sizes.now.t + 1) }
-    requires keys { (length public_key.old ≡ sizes.now.public_key) × (length secret_key.old ≡ sizes.now.secret_key) }
-    requires front { independent sizes.now.rows (matrix sizes.now.vector hp.old) ≡ true }
-    ensures public { public_key.new ≡ public_key_of sizes.now (reduced_of sizes.now.rows (matrix sizes.now.vector hp.old)) }
-    ensures secret { secret_key.new ≡ written sizes.now support.now g.now (matrix sizes.now.vector hp.old) mixing.now decoy.now }
-{
-    write_secret(sizes, support, g, hp, mixing, decoy, secret_key);
-    write_public(sizes, hp, public_key);
+    echelon(hp, sizes.body, sizes.vector - sizes.body, out).unwrap();
 }

@@ -1,6 +1,6 @@
 -- What is written, in the words of tickets.
-use Rattle.std.proofs.Common.{◌≡◌, ℕ, ◌+◌, ◌-◌, ◌*◌, ◌<◌, List, [], ◌++◌, length, take, drop, codes, refl, ap, ◌∙◌, inl, inr, arith}
-use Rattle.std.proofs.lemmas.List.{take_at, drop_all, length-drop, append-nil}
+use Rattle.std.proofs.Common.{◌≡◌, ℕ, ◌+◌, ◌-◌, ◌*◌, ◌<◌, List, [], ◌++◌, length, codes, refl, ap, ◌∙◌, inl, inr, arith}
+use Rattle.std.proofs.lemmas.List.{append-nil}
 use Rattle.std.proofs.lemmas.Bool.{cases_lt, lt-ltb, le-ltb}
 use Rattle.levels.specs.declared.Sizes.{Sizes}
 use Rattle.levels.specs.Table.{Lawful}
@@ -13,15 +13,6 @@ use Rattle.shuffles.proofs.Shuffles.{order_permutes}
 use Rattle.shuffles.proofs.Orders.{place_below}
 use Rattle.sealing.specs.Tickets.{Rule, head_of, body_of, ticket_of, Seals, key_of}
 use Rattle.sealing.specs.Calls.{public_matrix, seed_vector, Sealed}
-
--- n items at the front, and then a part to the end
-pub two_copies :
-    (n : ℕ) (x y rest : List ℕ) → length x ≡ n
-    → take n (x ++ rest) ++ (y ++ drop (length (x ++ rest) - n) (drop n (x ++ rest))) ≡ x ++ y
-two_copies n x y rest l =
-    let e : drop (length (x ++ rest) - n) (drop n (x ++ rest)) ≡ [] =
-    drop_all (length (x ++ rest) - n) (drop n (x ++ rest)) (simp length-drop (omega arith)) in
-    rw (e, append-nil y, take_at x rest n l)
 
 -- the bytes of a vector are its packing
 pub own_packing : (q : ℕ) (e : List ℕ) → length e ≡ q → Bytes e → e ≡ packed q (vector e)

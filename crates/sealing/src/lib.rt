@@ -8,6 +8,7 @@ ghost use Rattle.levels.specs.Work.{Cleared};
 ghost use Rattle.hashes.specs.Restarted.{Restarted};
 ghost use Rattle.sealing.specs.Calls.{seal_rows, checked_at, accepted, Sealed, SealedAt, lengths_of};
 
+use bits::join;
 use hashes::Hash;
 use hashes::labelled::digest;
 use levels::checks::{WorkLengths, check_capacity, check_work};
@@ -75,15 +76,6 @@ pub fn write_key<H: Hash>(hash: &mut H, e: &[u8], ticket: &[u8], key: &mut [u8; 
     ensures restarted { Restarted H.capacity H.left H.rule H.outcome hash.old hash.new }
 {
     digest(hash, b"PALOMAHH", e, ticket, key);
-}
-
-// Writes the parts of a ticket one after the other.
-fn join(head: &[u8; 32], body: &[u8], ticket: &mut [u8])
-    requires { length ticket.old ≡ 32 + length body.now }
-    ensures { ticket.new ≡ head.now ++ body.now }
-{
-    ticket[0..32].copy_from_slice(head);
-    ticket[32..].copy_from_slice(body);
 }
 
 // What a seal writes in the work memory from a vector, over any content: its permutation, the order

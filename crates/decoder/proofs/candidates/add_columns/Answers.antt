@@ -25,8 +25,8 @@ pub loop-j-preserved : goal.loop-j-preserved
 loop-j-preserved g c =
     let f = g.F.Field.ops in
     let pl = g.F.Field.places in
-    let gs = c.args.g.now in
-    let sup = c.args.support.now in
+    let gs = c.args.code.now.g.now in
+    let sup = c.args.code.now.support.now in
     let e = vector c.args.e.now in
     let j = c.loop-j.j in
     let t = length c.fill.new.self in
@@ -46,8 +46,8 @@ returns g c =
     let pl = g.F.Field.places in
     let sum = c.loop-j.sum in
     let en : length c.fill.new.self ≡ length c.args.sum.now = omega arith in
-    let end : c.loop-j.j ≡ length c.args.support.now = omega arith in
+    let end : c.loop-j.j ≡ length c.args.code.now.support.now = omega arith in
     λ r l.
     sym (pl.num_at (get_or sum r 0) (c.loop-j.invariant.1 r))
     ∙ ap pl.num (sym (coefs_at k pl sum r) ∙ c.loop-j.invariant.0 r (omega arith)
-    ∙ ap₂ (λ t n. column_sum f pl t c.args.g.now c.args.support.now n (vector c.args.e.now) r) en end)
+    ∙ ap₂ (λ t n. column_sum f pl t c.args.code.now.g.now c.args.code.now.support.now n (vector c.args.e.now) r) en end)

@@ -1,4 +1,4 @@
-use Rattle.std.proofs.Common.{◌≡◌, ◌*◌, length, get_or, replicate, refl, arith, rules}
+use Rattle.std.proofs.Common.{◌≡◌, ◌*◌, length, get_or, replicate, refl, arith, rules, get_or-take, length-take}
 use Rattle.bits.specs.Packed.{matrix}
 use Rattle.matrices.specs.Columns.{ColumnAdded}
 use Rattle.goppa.specs.Matrix.{column_bits, mixed_matrix}
@@ -16,13 +16,15 @@ loop-j-preserved g c =
     let f = g.F.Field.ops in
     let pl = g.F.Field.places in
     let n = length c.args.column_of.now in
-    let gs = c.args.g.now in
-    let x = get_or c.args.support.now (get_or c.args.order.now c.loop-j.j 0) 0 in
+    let gs = c.args.code.now.g.now in
+    let x = get_or c.args.code.now.support.now (get_or c.args.order.now c.loop-j.j 0) 0 in
+    let long = length-take (8 * c.args.width) c.args.order.now in
+    let at = get_or-take (8 * c.args.width) c.args.order.now c.loop-j.j 0 (omega (arith, long)) in
     let en : length c.loop-j.column_of ≡ n = omega arith in
     let added : ColumnAdded 0 (g.F.Field.BITS * n) (8 * c.args.width) c.loop-j.j (column_bits f pl n gs x) (matrix c.args.width c.loop-j.m) (matrix c.args.width c.add_code_column.new.m) =
-    rw en at c.add_code_column.ensures in
-    more_written (g.F.Field.BITS * n) (8 * c.args.width) c.loop-j.j (mixed_matrix f pl n gs c.args.support.now c.args.order.now)
+    rw (at, en) at c.add_code_column.ensures in
+    more_written (g.F.Field.BITS * n) (8 * c.args.width) c.loop-j.j (mixed_matrix f pl n gs c.args.code.now.support.now c.args.order.now)
     (matrix c.args.width c.loop-j.m) (matrix c.args.width c.add_code_column.new.m) (column_bits f pl n gs x) (λ i l. refl) added c.loop-j.invariant
 
 pub returns : goal.returns
-returns g c = all_written _ _ c.loop-j.j _ _ (omega arith) c.loop-j.invariant
+returns g c = all_written _ _ c.loop-j.j _ _ (omega (arith, length-take (8 * c.args.width) c.args.order.now)) c.loop-j.invariant

@@ -7,4 +7,4 @@ use Rattle.goppa.proofs.mixed.write_mixed.Given as goal
 abbrev pub invariant-loop-j : goal.invariant-loop-j
 invariant-loop-j g l =
     WrittenColumns (g.F.Field.BITS * length l.initial.column_of) (8 * l.width) l.j
-    (mixed_matrix g.F.Field.ops g.F.Field.places (length l.initial.column_of) l.g l.support l.order) (matrix l.width l.m)
+    (mixed_matrix g.F.Field.ops g.F.Field.places (length l.initial.column_of) l.code.g.now l.code.support.now l.order) (matrix l.width l.m)

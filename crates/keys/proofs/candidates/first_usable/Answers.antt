@@ -22,7 +22,7 @@ loop-c-preserved g c =
 pub seeds-preserved : goal.seeds-preserved
 seeds-preserved g c =
     let w = c.args.body in
-    let HP : ℕ → List ℕ → Matrix = λ t l. mixed_matrix g.F.Field.ops g.F.Field.places t c.args.g.now c.args.support.now l in
+    let HP : ℕ → List ℕ → Matrix = λ t l. mixed_matrix g.F.Field.ops g.F.Field.places t c.args.code.now.g.now c.args.code.now.support.now l in
     let xs = c.write_mixed.new.m in
     let ec : length c.seeds.column ≡ length c.args.column.now = omega arith in
     let ep : length c.seeds.positions ≡ length c.args.positions.now = omega arith in
@@ -45,7 +45,7 @@ returns g c = first_none _ _ (λ j l. c.seeds.invariant j (omega (arith, c.as_ch
 pub returns-in-seeds : goal.returns-in-seeds
 returns-in-seeds g c =
     let w = c.args.body in
-    let HP : ℕ → List ℕ → Matrix = λ t l. mixed_matrix g.F.Field.ops g.F.Field.places t c.args.g.now c.args.support.now l in
+    let HP : ℕ → List ℕ → Matrix = λ t l. mixed_matrix g.F.Field.ops g.F.Field.places t c.args.code.now.g.now c.args.code.now.support.now l in
     let xs = c.write_mixed.new.m in
     let ec : length c.seeds.column ≡ length c.args.column.now = omega arith in
     let ep : length c.seeds.positions ≡ length c.args.positions.now = omega arith in

@@ -13,4 +13,4 @@ invariant-loop-c g l = PartDone l.rows (8 * l.body) l.c (matrix l.body l.initial
 abbrev pub invariant-seeds : goal.invariant-seeds
 invariant-seeds g l =
     (k : ℕ) → k < l.i
-    → independent (8 * l.body) (mixed_matrix g.F.Field.ops g.F.Field.places (length l.initial.column) l.g l.support (order (length l.initial.positions) (seed_of l.seeds k))) ≡ false
+    → independent (8 * l.body) (mixed_matrix g.F.Field.ops g.F.Field.places (length l.initial.column) l.code.g.now l.code.support.now (order (length l.initial.positions) (seed_of l.seeds k))) ≡ false

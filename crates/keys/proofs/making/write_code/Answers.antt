@@ -2,7 +2,7 @@ use Rattle.std.proofs.Common.{◌≡◌, ℕ, List, map, length, sym, ap, ◌∙
 use Rattle.goppa.specs.Codes.{support, zeros}
 use Rattle.goppa.specs.Zeros.{from_zeros}
 use Rattle.keys.specs.Seeds.{support_of_seed, zeros_of, goppa_of}
-use Rattle.keys.proofs.Goppa.{code_fits, support_length, zeros_length, goppa_is, off}
+use Rattle.keys.proofs.Goppa.{code_fits, support_length, zeros_length, goppa_is}
 use Rattle.levels.proofs.Table.{lawful}
 use Rattle.keys.proofs.making.write_code.Goals as goal
 
@@ -29,10 +29,6 @@ returns g c =
     let eg : c.goppa_polynomial.new.g ≡ goppa_of f pl s seed =
     goppa_is f pl s seed c.goppa_polynomial.new.g (omega arith) c.goppa_polynomial.ensures.written
     (c.goppa_polynomial.ensures.product ∙ ap (λ (l : List ℕ). from_zeros f (map pl.at l)) ez) in
-    let long = ap length es ∙ support_length m s seed le in
-    record {
-      support = es;
-      g = eg;
-      long = long;
-      off = λ k l. rw (es, eg) (off g.met.F.Field.laws pl g.met.F.Field.origin s seed le k (omega arith));
-    }
+    let long : length (support s.n c.code_of.new.places) ≡ s.n = ap length es ∙ support_length m s seed le in
+    let same = c.support_of.ensures in
+    record { support = same ∙ es; g = eg; long = (ap length same ∙ long, omega arith) }

@@ -1,5 +1,5 @@
 use Rattle.std.proofs.Common.{ℕ, ◌-◌, ◌*◌, List, ◌++◌, length, drop, ◌∙◌, ap₂, arith}
-use Rattle.sealing.proofs.Tickets.{two_copies}
+use Rattle.bits.proofs.Joined.{two_copies}
 use Rattle.keys.proofs.writing.write_elements.Goals as goal
 
 pub returns : goal.returns

@@ -7,28 +7,28 @@ use Rattle.keys.specs.Secret.{matrix_in, mixing_in, mixed_in}
 use Rattle.soundness.proofs.Numbers.{mixed_front, matrix_part, order_read, difference_number, rank_number}
 use Rattle.soundness.proofs.Chains.{matrix_fails, rank_fails, matrix_passes}
 use Rattle.levels.proofs.Table.{lawful}
-use Rattle.soundness.proofs.check_matrix.Goals as goal
+use Rattle.soundness.proofs.Parts.check_matrix.Goals as goal
 
 pub write_mixed-requires-clause-order : goal.write_mixed-requires-clause-order
 write_mixed-requires-clause-order g c =
-    let h = lawful c.args.sizes.now in
+    let h = lawful c.args.self.now.sizes in
     let p = c.order_by.ensures.permutes in
     (omega (arith, h.body, h.columns), λ j l. omega (arith, h.body, h.columns, p.below j (omega (arith, h.body, h.columns))))
 
 pub returns-in-Some-first_difference : goal.returns-in-Some-first_difference
 returns-in-Some-first_difference g c =
-    let s = c.args.sizes.now in
+    let s = c.args.self.now.sizes in
     let key = c.args.key.now in
-    let h = lawful c.args.sizes.now in
+    let h = lawful c.args.self.now.sizes in
     let f = g.F.Field.ops in
     let pl = g.F.Field.places in
     let B = matrix s.body c.write_mixed.new.m in
     let HP : Matrix = mixed_in f pl s key in
     let at = c.in-Some-first_difference.at in
     let l : c.order_by.new.positions ≡ order s.n (mixing_in s key) =
-    order_read s key c.order_by.new.positions c.in-Some.seed.now (length c.args.positions.now) (omega arith) c.in-Some.ensures.cases.same c.order_by.ensures.after in
+    order_read s key c.order_by.new.positions c.in-Some.seed.now (length c.args.self.now.order.now) (omega arith) c.in-Some.ensures.cases.same c.order_by.ensures.after in
     let same : (i j : ℕ) → i < s.rows → j < s.rows → B i j ≡ HP i j =
-    mixed_front f pl s key c.args.support.now c.args.g.now c.requires.code.1.0 c.requires.code.0 h g.F.Field.BITS (length c.args.column.now) B c.order_by.new.positions
+    mixed_front f pl s key c.args.code.now.support.now c.args.code.now.g.now c.requires.code.1 c.requires.code.0 h g.F.Field.BITS (length c.args.self.now.column.now) B c.order_by.new.positions
     (mixing_in s key) c.requires.key.0 (omega arith) l refl c.write_mixed.ensures in
     let e₁ =
     difference_number s.rows (matrix_in s key) at (8 * s.body) B HP h.body same
@@ -37,18 +37,18 @@ returns-in-Some-first_difference g c =
 
 pub returns-then-found-sizes : goal.returns-then-found-sizes
 returns-then-found-sizes g c =
-    let s = c.args.sizes.now in
+    let s = c.args.self.now.sizes in
     let key = c.args.key.now in
-    let h = lawful c.args.sizes.now in
+    let h = lawful c.args.self.now.sizes in
     let f = g.F.Field.ops in
     let pl = g.F.Field.places in
     let B = matrix s.body c.write_mixed.new.m in
     let HP : Matrix = mixed_in f pl s key in
     let at = s.rows in
     let l : c.order_by.new.positions ≡ order s.n (mixing_in s key) =
-    order_read s key c.order_by.new.positions c.in-Some.seed.now (length c.args.positions.now) (omega arith) c.in-Some.ensures.cases.same c.order_by.ensures.after in
+    order_read s key c.order_by.new.positions c.in-Some.seed.now (length c.args.self.now.order.now) (omega arith) c.in-Some.ensures.cases.same c.order_by.ensures.after in
     let same : (i j : ℕ) → i < s.rows → j < s.rows → B i j ≡ HP i j =
-    mixed_front f pl s key c.args.support.now c.args.g.now c.requires.code.1.0 c.requires.code.0 h g.F.Field.BITS (length c.args.column.now) B c.order_by.new.positions
+    mixed_front f pl s key c.args.code.now.support.now c.args.code.now.g.now c.requires.code.1 c.requires.code.0 h g.F.Field.BITS (length c.args.self.now.column.now) B c.order_by.new.positions
     (mixing_in s key) c.requires.key.0 (omega arith) l refl c.write_mixed.ensures in
     let e₁ =
     difference_number s.rows (matrix_in s key) at (8 * s.body) B HP h.body same
@@ -58,18 +58,18 @@ returns-then-found-sizes g c =
 
 pub returns : goal.returns
 returns g c =
-    let s = c.args.sizes.now in
+    let s = c.args.self.now.sizes in
     let key = c.args.key.now in
-    let h = lawful c.args.sizes.now in
+    let h = lawful c.args.self.now.sizes in
     let f = g.F.Field.ops in
     let pl = g.F.Field.places in
     let B = matrix s.body c.write_mixed.new.m in
     let HP : Matrix = mixed_in f pl s key in
     let at = s.rows in
     let l : c.order_by.new.positions ≡ order s.n (mixing_in s key) =
-    order_read s key c.order_by.new.positions c.in-Some.seed.now (length c.args.positions.now) (omega arith) c.in-Some.ensures.cases.same c.order_by.ensures.after in
+    order_read s key c.order_by.new.positions c.in-Some.seed.now (length c.args.self.now.order.now) (omega arith) c.in-Some.ensures.cases.same c.order_by.ensures.after in
     let same : (i j : ℕ) → i < s.rows → j < s.rows → B i j ≡ HP i j =
-    mixed_front f pl s key c.args.support.now c.args.g.now c.requires.code.1.0 c.requires.code.0 h g.F.Field.BITS (length c.args.column.now) B c.order_by.new.positions
+    mixed_front f pl s key c.args.code.now.support.now c.args.code.now.g.now c.requires.code.1 c.requires.code.0 h g.F.Field.BITS (length c.args.self.now.column.now) B c.order_by.new.positions
     (mixing_in s key) c.requires.key.0 (omega arith) l refl c.write_mixed.ensures in
     let e₁ =
     difference_number s.rows (matrix_in s key) at (8 * s.body) B HP h.body same
