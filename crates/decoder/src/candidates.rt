@@ -27,7 +27,8 @@ pub fn mark_zeros<F: BinaryField>(l: &[u16], support: &[u16], values: &mut [u16]
     }
 }
 
-// The number of ones at the first n places of a vector.
+// The number of ones at the first n places of a vector. It is a loop, since `filter` and `count` would take
+// a proof about their runs that is longer than the loop's.
 pub fn weight_of(v: &[u8], n: usize) -> usize
     requires { n ≤ 8 * length v.now }
     ensures { result ≡ weight n (vector v.now) }

@@ -67,6 +67,7 @@ pub fn zeros_in_field<F: BinaryField>(g: &[Place], work: &mut [Place]) -> usize
     let (points, values) = work.split_at_mut(half);
     let mut first = 0;
     let mut found = 0;
+    // The last step is shorter than the others, which `step_by` would not say.
     while first < size {
         let some = half.min(size - first);
         found += zeros_from::<F>(g, first, &mut points[0..some], &mut values[0..some]);
