@@ -105,7 +105,7 @@ grep("3b while", r"^ *while .*\{$")
 # 4
 for n, l, f, above, params, result, clauses, body in ALL:
     if f in ("name", "from_name", "report", "layer_code", "part_code", "same", "told_of", "tell_refusal",
-             "inverse_or_zero", "text", "lane_of", "word_of", "byte_of", "write_both", "join"):
+             "inverse_or_zero", "text", "lane_of", "word_of", "byte_of", "join"):
         put("4 conversion, equality, printing by hand", f"{n}:{l}: {f}")
 
 # 5

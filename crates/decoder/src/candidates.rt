@@ -67,6 +67,7 @@ pub fn add_columns<F: BinaryField>(code: &Code<'_, F>, e: &[u8], sum: &mut [u16]
     ensures { (r : ℕ) → r < length sum.old → slice_index sum.new r ≡ F.Field.places.num (column_sum F.Field.ops F.Field.places (length sum.old) code.now.g.now code.now.support.now (length code.now.support.now) (vector e.now) r) }
 {
     sum.fill(0);
+    // By numbers: a column and its bit go by the number of the entry, and no slice is read here.
     for j in 0..code.support.len() {
         add_chosen(code, j, bit(e, j), sum, col);
     }

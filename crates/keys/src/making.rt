@@ -20,7 +20,8 @@ use levels::guards::{Place, Position, Work};
 use shuffles::{Seed, order_by};
 use std::marker::PhantomData;
 
-// The seeds of a make; the mixing seeds are a list.
+// The seeds of a make; the mixing seeds are a list. The length of an array behind a reference in a
+// struct is not known by its type, so a ghost field has it.
 #[derive(Drop)]
 pub struct Seeds<'a> {
     pub code: &'a Seed,
@@ -99,7 +100,7 @@ impl Parts<'_, '_, '_> {
         write_public(&sizes, hp, public_key);
     }
 
-    // Makes a pair; `all` and g are for the code.
+    // Makes a pair; the code is written in `all` and `g`.
     fn make<F: BinaryField>(
         &mut self,
         seeds: &Seeds<'_>,

@@ -37,7 +37,7 @@ pub fn read_code<F: BinaryField>(sizes: &Sizes, key: &[u8], g: &mut [Place], sup
     g[sizes.t] = F::one().place();
 }
 
-// The tests of the support and g. They give the code that was read, for which `lists` is.
+// Reads the support and g into `lists`, and tests them. They are the code that this gives.
 fn check_code<'a, F: BinaryField>(
     sizes: &Sizes,
     key: &[u8],
@@ -111,7 +111,7 @@ impl Parts<'_, '_, '_> {
         Ok(())
     }
 
-    // The tests; `lists` is for the code.
+    // The tests; the code is read into `lists`.
     fn check<F: BinaryField>(
         &mut self,
         key: &[u8],
