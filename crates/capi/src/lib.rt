@@ -194,8 +194,8 @@ fn error_vector_at(
     Ok(())
 }
 
-// The bytes as a text that names the same level (by a match, since the proof by `unwrap_or` did not close). Bytes that are not UTF-8 name none, as the empty text
-// does.
+// The bytes as a text that names the same level. Bytes that are not UTF-8 name none, as the empty text
+// does. It is a match, since the proof by `unwrap_or` did not close.
 fn text(bytes: &[u8]) -> &str
     ensures { level_of result.now ≡ level_of bytes.now }
 {

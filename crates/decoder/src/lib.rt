@@ -44,7 +44,7 @@ fn decode_places<F: BinaryField>(
     Some(())
 }
 
-// Whether a syndrome has an error vector: a vector of weight t whose sum of columns is the syndrome. There is one at most, and `out` then holds it; otherwise it holds zeros.
+// Writes the error vector of a syndrome: the vector of weight t whose sum of columns is the syndrome, of which there is one at most. Where there is none the answer is absent, and `out` holds zeros.
 pub fn decode<F: BinaryField>(
     code: &Code<'_, F>,
     syndrome: &[u8],

@@ -2,6 +2,5 @@
 #![tactic(auto)]
 
 pub mod locate;
-pub mod memory;
 pub mod roots;
 pub mod steps;

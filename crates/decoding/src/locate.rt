@@ -11,125 +11,101 @@ ghost use Rattle.patterson.specs.Euclid.{EuclidState};
 ghost use Rattle.patterson.specs.Decoder.{candidate};
 ghost use Rattle.decoding.specs.Stages.{Ready, Locates, NoErrors};
 
-use crate::memory::{Roots, Rows, Wide};
-use crate::steps::{Modulus, quotient};
+use crate::roots::{inverse_modulo, root_of_x, square_root_modulo};
+use crate::steps::{common_divisor, product_modulo, quotient, shifted_syndrome};
 use fields::field::{BinaryField, Field};
 use fields::read;
 use polys::arithmetic::product;
 use polys::euclid::euclid;
-use std::marker::PhantomData;
 
-// What the stages of the decoder work out from g and s: v = 1 + X·s modulo g, the common divisors g1 of g and s and g2 of g and v, and s by g1, v by g2 and g by g1·g2.
-#[derive(Drop)]
-struct Stages<'a> {
-    v: &'a mut [u16],
-    g1: &'a mut [u16],
-    g2: &'a mut [u16],
-    s1: &'a mut [u16],
-    v2: &'a mut [u16],
-    g12: &'a mut [u16],
-    ghost first: { length g1.now ≡ length v.now },
-    ghost second: { length g2.now ≡ length v.now },
-    ghost of_s: { length s1.now ≡ length v.now },
-    ghost of_v: { length v2.now ≡ length v.now },
-    ghost of_g: { length g12.now ≡ length v.now },
+// Writes v = 1 + X·s modulo g, the common divisors g1 of g and s and g2 of g and v, and s by g1, v by g2 and g by g1·g2. The results are the degrees of g1 and g2.
+fn prepare<F: BinaryField>(
+    g: &[u16],
+    s: &[u16],
+    v: &mut [u16],
+    g1: &mut [u16],
+    g2: &mut [u16],
+    s1: &mut [u16],
+    v2: &mut [u16],
+    g12: &mut [u16],
+    r: &mut [u16],
+    a: &mut [u16],
+    b: &mut [u16],
+    wide: &mut [u16],
+    t: usize,
+) -> (usize, usize)
+    requires code { (length g.now ≡ t + 1) × ((length s.now ≡ t) × ((coefs F.Field.places g.now) t ≡ F.Field.ops.one)) }
+    requires results { (length v.old ≡ t + 1) × ((length g1.old ≡ t + 1) × ((length g2.old ≡ t + 1) × ((length s1.old ≡ t + 1) × (length v2.old ≡ t + 1)))) }
+    requires work { (length g12.old ≡ t + 1) × ((length r.old ≡ t + 1) × ((length a.old ≡ t + 1) × ((length b.old ≡ t + 1) × (length wide.old ≡ 2 * (t + 1))))) }
+    ensures { Ready F.Field.ops F.Field.places t g.now s.now v.new g1.new g2.new s1.new v2.new g12.new result.0 result.1 }
+{
+    shifted_syndrome::<F>(s, g, v, t);
+    let n1 = common_divisor::<F>(g, s, g1, r, a, b, t);
+    let n2 = common_divisor::<F>(g, v, g2, r, a, b, t);
+    quotient::<F>(s, g1, s1, r, n1);
+    quotient::<F>(v, g2, v2, r, n2);
+    product::<F>(wide, g1, g2);
+    quotient::<F>(g, wide, g12, r, n1 + n2);
+    (n1, n2)
 }
 
-impl Stages<'_> {
-    // g12, of degree n, as a modulus.
-    fn modulus<F: BinaryField>(&self, n: usize) -> Modulus<'_, F>
-        requires { (n < length self.now.g12.now) × (Degree F.Field.ops n (coefs F.Field.places self.now.g12.now)) }
-        ensures { (result.p.now ≡ self.now.g12.now) × (result.n ≡ n) }
-    {
-        Modulus {
-            p: self.g12,
-            n,
-            of: PhantomData,
-        }
-    }
-
-    // Works all of it out. The results are the degrees of g1 and g2.
-    fn prepare<F: BinaryField>(
-        &mut self,
-        g: &Modulus<'_, F>,
-        s: &[u16],
-        rows: &mut Rows<'_>,
-        wide: &mut Wide<'_>,
-    ) -> (usize, usize)
-        requires code { (length g.now.p.now ≡ g.now.n + 1) × ((length s.now ≡ g.now.n) × ((coefs F.Field.places g.now.p.now) g.now.n ≡ F.Field.ops.one)) }
-        requires fits { (length self.old.v.now ≡ g.now.n + 1) × ((length rows.old.s.now ≡ g.now.n + 1) × (length wide.old.whole.now ≡ 2 * (g.now.n + 1))) }
-        ensures ready { Ready F.Field.ops F.Field.places g.now.n g.now.p.now s.now self.new.v.now self.new.g1.now self.new.g2.now self.new.s1.now self.new.v2.now self.new.g12.now result.0 result.1 }
-        ensures kept { (length self.new.v.now ≡ length self.old.v.now) × ((length rows.new.s.now ≡ length rows.old.s.now) × (length wide.new.whole.now ≡ length wide.old.whole.now)) }
-    {
-        // Out of the struct while they are read: a proof knows a field's slice at its first reading alone.
-        let v = &mut *self.v;
-        let g1 = &mut *self.g1;
-        let g2 = &mut *self.g2;
-        g.shifted_syndrome(s, v);
-        let n1 = g.common_divisor(s, g1, rows);
-        let n2 = g.common_divisor(v, g2, rows);
-        quotient::<F>(s, g1, self.s1, rows.r, n1);
-        quotient::<F>(v, g2, self.v2, rows.r, n2);
-        product::<F>(wide.whole, g1, g2);
-        quotient::<F>(g.p, wide.whole, self.g12, rows.r, n1 + n2);
-        (n1, n2)
-    }
-
-    // Writes the square root of g1·v2 by g2·s1 modulo g12 to r.
-    fn key_root<F: BinaryField>(
-        &self,
-        g12: &Modulus<'_, F>,
-        roots: &mut Roots<'_>,
-        rows: &mut Rows<'_>,
-        wide: &mut Wide<'_>,
-    )
-        requires least { 1 ≤ g12.now.n }
-        requires fits { (length self.now.v.now ≡ length g12.now.p.now) × ((length roots.old.even.now ≡ length g12.now.p.now) × ((length rows.old.s.now ≡ length g12.now.p.now) × (length wide.old.whole.now ≡ 2 * length g12.now.p.now))) }
-        ensures under { Below F.Field.ops g12.now.n (coefs F.Field.places rows.new.r.now) }
-        ensures root { (zs : List F) → Splits F.Field.ops g12.now.n (value F.Field.ops F.Field.places g12.now.p.now) zs → ((z : F) → In z zs → F.Field.ops.mul ((value F.Field.ops F.Field.places self.now.g2.now) z) ((value F.Field.ops F.Field.places self.now.s1.now) z) ≢ F.Field.ops.zero) → (x : F) → (value F.Field.ops F.Field.places g12.now.p.now) x ≡ F.Field.ops.zero → F.Field.ops.mul (F.Field.ops.mul ((value F.Field.ops F.Field.places rows.new.r.now) x) ((value F.Field.ops F.Field.places rows.new.r.now) x)) (F.Field.ops.mul ((value F.Field.ops F.Field.places self.now.g2.now) x) ((value F.Field.ops F.Field.places self.now.s1.now) x)) ≡ F.Field.ops.mul ((value F.Field.ops F.Field.places self.now.g1.now) x) ((value F.Field.ops F.Field.places self.now.v2.now) x) }
-        ensures kept { (length rows.new.s.now ≡ length rows.old.s.now) × (length wide.new.whole.now ≡ length wide.old.whole.now) }
-    {
-        g12.root_of_x(roots, rows, wide);
-        let w = &mut *roots.odd;
-        g12.product_modulo(self.g2, self.s1, w, wide);
-        g12.inverse_modulo(w, rows);
-        g12.product_modulo(self.g1, self.v2, w, wide);
-        let u = &mut *rows.s;
-        g12.product_modulo(w, rows.b, u, wide);
-        g12.square_root_modulo(u, rows.r, roots, wide);
-    }
-
-    // Writes (r·g2)² + X·(b·g1)², where both products lie below X^n.
-    fn join_parts<F: BinaryField>(
-        &self,
-        rows: &Rows<'_>,
-        out: &mut [u16],
-        wide: &mut Wide<'_>,
-        n: usize,
-    )
-        requires fits { (length rows.now.s.now + length self.now.v.now ≤ length wide.old.whole.now + 1) × ((n ≤ length wide.old.whole.now) × (length out.old ≡ 2 * n)) }
-        requires under { (Below F.Field.ops n ((poly F.Field.ops).mul (coefs F.Field.places rows.now.r.now) (coefs F.Field.places self.now.g2.now))) × (Below F.Field.ops n ((poly F.Field.ops).mul (coefs F.Field.places rows.now.b.now) (coefs F.Field.places self.now.g1.now))) }
-        ensures { (x : F) → (value F.Field.ops F.Field.places out.new) x ≡ candidate F.Field.ops (value F.Field.ops F.Field.places self.now.g1.now) (value F.Field.ops F.Field.places self.now.g2.now) (value F.Field.ops F.Field.places rows.now.r.now) (value F.Field.ops F.Field.places rows.now.b.now) x }
-    {
-        product::<F>(wide.whole, rows.r, self.g2);
-        product::<F>(wide.quot, rows.b, self.g1);
-        join_squares::<F>(wide.whole, wide.quot, out, n);
-    }
+// Writes the square root of g1·v2 by g2·s1 modulo g12, of degree n.
+fn key_root<F: BinaryField>(
+    g1: &[u16],
+    g2: &[u16],
+    s1: &[u16],
+    v2: &[u16],
+    g12: &[u16],
+    out: &mut [u16],
+    w: &mut [u16],
+    u: &mut [u16],
+    even: &mut [u16],
+    odd: &mut [u16],
+    r: &mut [u16],
+    a: &mut [u16],
+    b: &mut [u16],
+    wide: &mut [u16],
+    quot: &mut [u16],
+    n: usize,
+)
+    requires fits { (1 ≤ n) × ((n < length g12.now) × ((length g1.now ≡ length g12.now) × (length g2.now ≡ length g12.now))) }
+    requires quotients { (length s1.now ≡ length g12.now) × ((length v2.now ≡ length g12.now) × ((length out.old ≡ length g12.now) × ((length w.old ≡ length g12.now) × (length u.old ≡ length g12.now)))) }
+    requires parts { (length even.old ≡ length g12.now) × ((length odd.old ≡ length g12.now) × ((length r.old ≡ length g12.now) × ((length a.old ≡ length g12.now) × (length b.old ≡ length g12.now)))) }
+    requires work { (length wide.old ≡ 2 * length g12.now) × (length quot.old ≡ 2 * length g12.now) }
+    requires degree { Degree F.Field.ops n (coefs F.Field.places g12.now) }
+    ensures under { Below F.Field.ops n (coefs F.Field.places out.new) }
+    ensures root { (zs : List F) → Splits F.Field.ops n (value F.Field.ops F.Field.places g12.now) zs → ((z : F) → In z zs → F.Field.ops.mul ((value F.Field.ops F.Field.places g2.now) z) ((value F.Field.ops F.Field.places s1.now) z) ≢ F.Field.ops.zero) → (x : F) → (value F.Field.ops F.Field.places g12.now) x ≡ F.Field.ops.zero → F.Field.ops.mul (F.Field.ops.mul ((value F.Field.ops F.Field.places out.new) x) ((value F.Field.ops F.Field.places out.new) x)) (F.Field.ops.mul ((value F.Field.ops F.Field.places g2.now) x) ((value F.Field.ops F.Field.places s1.now) x)) ≡ F.Field.ops.mul ((value F.Field.ops F.Field.places g1.now) x) ((value F.Field.ops F.Field.places v2.now) x) }
+{
+    product_modulo::<F>(g2, s1, g12, w, wide, quot, n);
+    inverse_modulo::<F>(g12, w, out, r, a, b, n);
+    product_modulo::<F>(g1, v2, g12, w, wide, quot, n);
+    product_modulo::<F>(w, b, g12, u, wide, quot, n);
+    root_of_x::<F>(g12, w, even, odd, r, a, b, wide, quot, n);
+    square_root_modulo::<F>(u, w, g12, out, even, odd, wide, quot, n);
 }
 
-impl<F: BinaryField> Modulus<'_, F> {
-    // Euclid's rule from the polynomial and r, of a lower degree, up to the first remainder below X^stop, which r then holds; b holds the factor of the first r in it. The result is the degree of the remainder before.
-    fn key_solution(&self, rows: &mut Rows<'_>, stop: usize) -> usize
-        requires fits { (stop ≤ self.now.n) × (length rows.old.s.now ≡ length self.now.p.now) }
-        requires under { Below F.Field.ops self.now.n (coefs F.Field.places rows.old.r.now) }
-        ensures state { EuclidState F.Field.ops self.now.n (value F.Field.ops F.Field.places self.now.p.now) (value F.Field.ops F.Field.places rows.old.r.now) result (value F.Field.ops F.Field.places rows.new.s.now) (value F.Field.ops F.Field.places rows.new.r.now) (value F.Field.ops F.Field.places rows.new.a.now) (value F.Field.ops F.Field.places rows.new.b.now) }
-        ensures low { (Below F.Field.ops stop (coefs F.Field.places rows.new.r.now)) × (Below F.Field.ops (suc (self.now.n - result)) (coefs F.Field.places rows.new.b.now)) }
-        ensures high { (stop ≤ result) × (result ≤ self.now.n) }
-        ensures kept { length rows.new.s.now ≡ length rows.old.s.now }
-    {
-        rows.s.copy_from_slice(self.p);
-        euclid::<F>(rows.s, rows.r, rows.a, rows.b, self.n, stop)
-    }
+// Euclid's rule from a polynomial of degree n and y, of a lower one, up to the first remainder below X^stop, which r then holds; b holds the factor of y in it. The result is the degree of the remainder before.
+fn key_solution<F: BinaryField>(
+    modulus: &[u16],
+    y: &[u16],
+    s: &mut [u16],
+    r: &mut [u16],
+    a: &mut [u16],
+    b: &mut [u16],
+    n: usize,
+    stop: usize,
+) -> usize
+    requires fits { (stop ≤ n) × ((n < length modulus.now) × (length y.now ≡ length modulus.now)) }
+    requires work { (length s.old ≡ length modulus.now) × ((length r.old ≡ length modulus.now) × ((length a.old ≡ length modulus.now) × (length b.old ≡ length modulus.now))) }
+    requires degree { Degree F.Field.ops n (coefs F.Field.places modulus.now) }
+    requires under { Below F.Field.ops n (coefs F.Field.places y.now) }
+    ensures state { EuclidState F.Field.ops n (value F.Field.ops F.Field.places modulus.now) (value F.Field.ops F.Field.places y.now) result (value F.Field.ops F.Field.places s.new) (value F.Field.ops F.Field.places r.new) (value F.Field.ops F.Field.places a.new) (value F.Field.ops F.Field.places b.new) }
+    ensures low { (Below F.Field.ops stop (coefs F.Field.places r.new)) × (Below F.Field.ops (suc (n - result)) (coefs F.Field.places b.new)) }
+    ensures high { (stop ≤ result) × (result ≤ n) }
+{
+    s.copy_from_slice(modulus);
+    r.copy_from_slice(y);
+    euclid::<F>(s, r, a, b, n, stop)
 }
 
 // The square of coefficient i.
@@ -147,10 +123,31 @@ fn join_squares<F: BinaryField>(p: &[u16], q: &[u16], out: &mut [u16], n: usize)
     requires under { (Below F.Field.ops n (coefs F.Field.places p.now)) × (Below F.Field.ops n (coefs F.Field.places q.now)) }
     ensures { (x : F) → (value F.Field.ops F.Field.places out.new) x ≡ from_parts F.Field.ops (value F.Field.ops F.Field.places p.now) (value F.Field.ops F.Field.places q.now) x }
 {
-    for (i, x) in out.iter_mut().enumerate() {
-        let from = if i % 2 == 0 { p } else { q };
-        *x = square_at::<F>(from, i / 2);
+    // By places: a proof does not know what is written through `chunks_exact_mut`.
+    for i in 0..n {
+        out[2 * i] = square_at::<F>(p, i);
+        out[2 * i + 1] = square_at::<F>(q, i);
     }
+}
+
+// Writes (a·g2)² + X·(b·g1)², where both products lie below X^n.
+fn join_parts<F: BinaryField>(
+    a: &[u16],
+    b: &[u16],
+    g1: &[u16],
+    g2: &[u16],
+    out: &mut [u16],
+    wide: &mut [u16],
+    other: &mut [u16],
+    n: usize,
+)
+    requires fits { (length a.now + length g2.now ≤ length wide.old + 1) × ((length b.now + length g1.now ≤ length other.old + 1) × ((n ≤ length wide.old) × ((n ≤ length other.old) × (length out.old ≡ 2 * n)))) }
+    requires under { (Below F.Field.ops n ((poly F.Field.ops).mul (coefs F.Field.places a.now) (coefs F.Field.places g2.now))) × (Below F.Field.ops n ((poly F.Field.ops).mul (coefs F.Field.places b.now) (coefs F.Field.places g1.now))) }
+    ensures { (x : F) → (value F.Field.ops F.Field.places out.new) x ≡ candidate F.Field.ops (value F.Field.ops F.Field.places g1.now) (value F.Field.ops F.Field.places g2.now) (value F.Field.ops F.Field.places a.now) (value F.Field.ops F.Field.places b.now) x }
+{
+    product::<F>(wide, a, g2);
+    product::<F>(other, b, g1);
+    join_squares::<F>(wide, other, out, n);
 }
 
 // Whether the degrees of g1 and g2 are within their bounds; only then can a vector of weight t have the syndrome.
@@ -162,28 +159,42 @@ fn within_bounds(t: usize, n1: usize, n2: usize) -> bool
 
 // Writes a polynomial that is zero at the points of the errors of every vector of weight t with the syndrome s, and at no others: absent where no vector of weight t has the syndrome.
 fn find_locator<F: BinaryField>(
-    g: &Modulus<'_, F>,
+    g: &[u16],
     s: &[u16],
     out: &mut [u16],
-    stages: &mut Stages<'_>,
-    roots: &mut Roots<'_>,
-    rows: &mut Rows<'_>,
-    wide: &mut Wide<'_>,
+    v: &mut [u16],
+    g1: &mut [u16],
+    g2: &mut [u16],
+    s1: &mut [u16],
+    v2: &mut [u16],
+    g12: &mut [u16],
+    w: &mut [u16],
+    u: &mut [u16],
+    even: &mut [u16],
+    odd: &mut [u16],
+    r: &mut [u16],
+    a: &mut [u16],
+    b: &mut [u16],
+    wide: &mut [u16],
+    quot: &mut [u16],
+    t: usize,
 ) -> Option<()>
-    requires code { (length g.now.p.now ≡ g.now.n + 1) × ((length s.now ≡ g.now.n) × (((coefs F.Field.places g.now.p.now) g.now.n ≡ F.Field.ops.one) × ((2 ≤ g.now.n) × (length out.old ≡ 2 * (g.now.n / 2 + 1))))) }
-    requires fits { (length stages.old.v.now ≡ g.now.n + 1) × ((length roots.old.even.now ≡ g.now.n + 1) × ((length rows.old.s.now ≡ g.now.n + 1) × (length wide.old.whole.now ≡ 2 * (g.now.n + 1)))) }
-    ensures { (zs sup : List F) → GoppaCode F.Field.ops g.now.n (value F.Field.ops F.Field.places g.now.p.now) zs sup → MatchOption result (NoErrors F.Field.ops g.now.n (value F.Field.ops F.Field.places s.now) zs sup) (λ _. Locates F.Field.ops g.now.n (value F.Field.ops F.Field.places s.now) zs sup (value F.Field.ops F.Field.places out.new)) }
+    requires code { (length g.now ≡ t + 1) × ((length s.now ≡ t) × (((coefs F.Field.places g.now) t ≡ F.Field.ops.one) × ((2 ≤ t) × (length out.old ≡ 2 * (t / 2 + 1))))) }
+    requires divisors { (length v.old ≡ t + 1) × ((length g1.old ≡ t + 1) × ((length g2.old ≡ t + 1) × ((length s1.old ≡ t + 1) × (length v2.old ≡ t + 1)))) }
+    requires quotients { (length g12.old ≡ t + 1) × ((length w.old ≡ t + 1) × ((length u.old ≡ t + 1) × ((length even.old ≡ t + 1) × (length odd.old ≡ t + 1)))) }
+    requires work { (length r.old ≡ t + 1) × ((length a.old ≡ t + 1) × ((length b.old ≡ t + 1) × ((length wide.old ≡ 2 * (t + 1)) × (length quot.old ≡ 2 * (t + 1))))) }
+    ensures { (zs sup : List F) → GoppaCode F.Field.ops t (value F.Field.ops F.Field.places g.now) zs sup → MatchOption result (NoErrors F.Field.ops t (value F.Field.ops F.Field.places s.now) zs sup) (λ _. Locates F.Field.ops t (value F.Field.ops F.Field.places s.now) zs sup (value F.Field.ops F.Field.places out.new)) }
 {
-    let t = g.n;
-    let (n1, n2) = stages.prepare(g, s, rows, wide);
+    let (n1, n2) = prepare::<F>(g, s, v, g1, g2, s1, v2, g12, r, a, b, wide, t);
     if !within_bounds(t, n1, n2) {
         return None;
     }
-    let stages = &*stages;
-    let g12 = stages.modulus::<F>(t - (n1 + n2));
-    stages.key_root(&g12, roots, rows, wide);
-    g12.key_solution(rows, t / 2 - n2 + 1);
-    stages.join_parts::<F>(rows, out, wide, t / 2 + 1);
+    let n = t - (n1 + n2);
+    key_root::<F>(
+        g1, g2, s1, v2, g12, v, w, u, even, odd, r, a, b, wide, quot, n,
+    );
+    key_solution::<F>(g12, v, w, r, a, b, n, t / 2 - n2 + 1);
+    join_parts::<F>(r, b, g1, g2, out, wide, quot, t / 2 + 1);
     Some(())
 }
 
@@ -206,33 +217,16 @@ pub fn locate_within<F: BinaryField>(
     let (s1, rest) = rest.split_at_mut(l);
     let (v2, rest) = rest.split_at_mut(l);
     let (g12, rest) = rest.split_at_mut(l);
+    let (w, rest) = rest.split_at_mut(l);
+    let (u, rest) = rest.split_at_mut(l);
     let (even, rest) = rest.split_at_mut(l);
     let (odd, rest) = rest.split_at_mut(l);
-    let (x, rest) = rest.split_at_mut(l);
-    let (first, rest) = rest.split_at_mut(l);
     let (r, rest) = rest.split_at_mut(l);
     let (a, rest) = rest.split_at_mut(l);
     let (b, rest) = rest.split_at_mut(l);
-    let (whole, rest) = rest.split_at_mut(2 * l);
+    let (wide, rest) = rest.split_at_mut(2 * l);
     let (quot, _) = rest.split_at_mut(2 * l);
-    find_locator(
-        &Modulus::<F> {
-            p: g,
-            n: t,
-            of: PhantomData,
-        },
-        s,
-        out,
-        &mut Stages {
-            v,
-            g1,
-            g2,
-            s1,
-            v2,
-            g12,
-        },
-        &mut Roots { even, odd, x },
-        &mut Rows { s: first, r, a, b },
-        &mut Wide { whole, quot },
+    find_locator::<F>(
+        g, s, out, v, g1, g2, s1, v2, g12, w, u, even, odd, r, a, b, wide, quot, t,
     )
 }

@@ -7,8 +7,7 @@ ghost use Rattle.patterson.specs.Points.{In};
 ghost use Rattle.patterson.specs.Polys.{Splits};
 ghost use Rattle.patterson.specs.Locator.{from_parts};
 
-use crate::memory::{Roots, Rows, Wide};
-use crate::steps::{Modulus, copy};
+use crate::steps::{copy, product_modulo};
 use fields::field::{BinaryField, Field};
 use fields::read;
 use polys::arithmetic::{add, scale};
@@ -22,6 +21,30 @@ fn inverse_or_zero<F: BinaryField>(x: F) -> F
     x.inverse().unwrap_or(F::zero())
 }
 
+// Writes the inverse of q, of a lower degree, modulo a polynomial of degree n, to b: where the polynomial has n different zeros, and q is zero at none of them.
+pub fn inverse_modulo<F: BinaryField>(
+    modulus: &[u16],
+    q: &[u16],
+    s: &mut [u16],
+    r: &mut [u16],
+    a: &mut [u16],
+    b: &mut [u16],
+    n: usize,
+)
+    requires fits { (1 ≤ n) × ((n < length modulus.now) × (length q.now ≤ length modulus.now)) }
+    requires work { (length s.old ≡ length modulus.now) × ((length r.old ≡ length modulus.now) × ((length a.old ≡ length modulus.now) × (length b.old ≡ length modulus.now))) }
+    requires degree { Degree F.Field.ops n (coefs F.Field.places modulus.now) }
+    requires under { Below F.Field.ops n (coefs F.Field.places q.now) }
+    ensures under { Below F.Field.ops n (coefs F.Field.places b.new) }
+    ensures values { (zs : List F) → Splits F.Field.ops n (value F.Field.ops F.Field.places modulus.now) zs → ((z : F) → In z zs → (value F.Field.ops F.Field.places q.now) z ≢ F.Field.ops.zero) → (x : F) → (value F.Field.ops F.Field.places modulus.now) x ≡ F.Field.ops.zero → F.Field.ops.mul ((value F.Field.ops F.Field.places b.new) x) ((value F.Field.ops F.Field.places q.now) x) ≡ F.Field.ops.one }
+{
+    s.copy_from_slice(modulus);
+    copy::<F>(q, r);
+    euclid::<F>(s, r, a, b, n, 1);
+    let e = inverse_or_zero(read::<F>(r[0]));
+    scale(b, e);
+}
+
 // Writes the square roots of every second coefficient from `start` on.
 fn every_other_root<F: BinaryField>(p: &[u16], start: usize, out: &mut [u16])
     requires { (start ≤ 1) × ((1 ≤ length p.now) × (length p.now ≤ 2 * length out.old)) }
@@ -29,9 +52,9 @@ fn every_other_root<F: BinaryField>(p: &[u16], start: usize, out: &mut [u16])
 {
     out.fill(0);
     let rest = p.len() - start;
-    let roots = &mut out[..rest / 2 + rest % 2];
-    for (j, x) in roots.iter_mut().enumerate() {
-        *x = read::<F>(p[2 * j + start]).square_root().place();
+    // By places: a `zip` with `iter_mut` would say nothing of what was written.
+    for j in 0..rest / 2 + rest % 2 {
+        out[j] = read::<F>(p[2 * j + start]).square_root().place();
     }
 }
 
@@ -46,51 +69,50 @@ pub fn roots_apart<F: BinaryField>(p: &[u16], even: &mut [u16], odd: &mut [u16])
     every_other_root::<F>(p, 1, odd);
 }
 
-impl<F: BinaryField> Modulus<'_, F> {
-    // Writes the inverse of q, of a lower degree, to b: where the polynomial has n different zeros, and q is zero at none of them.
-    pub fn inverse_modulo(&self, q: &[u16], rows: &mut Rows<'_>)
-        requires fits { (1 ≤ self.now.n) × ((length q.now ≤ length self.now.p.now) × (length rows.old.s.now ≡ length self.now.p.now)) }
-        requires under { Below F.Field.ops self.now.n (coefs F.Field.places q.now) }
-        ensures under { Below F.Field.ops self.now.n (coefs F.Field.places rows.new.b.now) }
-        ensures values { (zs : List F) → Splits F.Field.ops self.now.n (value F.Field.ops F.Field.places self.now.p.now) zs → ((z : F) → In z zs → (value F.Field.ops F.Field.places q.now) z ≢ F.Field.ops.zero) → (x : F) → (value F.Field.ops F.Field.places self.now.p.now) x ≡ F.Field.ops.zero → F.Field.ops.mul ((value F.Field.ops F.Field.places rows.new.b.now) x) ((value F.Field.ops F.Field.places q.now) x) ≡ F.Field.ops.one }
-        ensures kept { length rows.new.s.now ≡ length rows.old.s.now }
-    {
-        rows.s.copy_from_slice(self.p);
-        copy::<F>(q, rows.r);
-        euclid::<F>(rows.s, rows.r, rows.a, rows.b, self.n, 1);
-        let e = inverse_or_zero(read::<F>(rows.r[0]));
-        scale(rows.b, e);
-    }
+// Writes a square root of X modulo a polynomial of degree n that has n different zeros: the polynomial is even² + X·odd², so it is even by odd.
+pub fn root_of_x<F: BinaryField>(
+    modulus: &[u16],
+    out: &mut [u16],
+    even: &mut [u16],
+    odd: &mut [u16],
+    r: &mut [u16],
+    a: &mut [u16],
+    b: &mut [u16],
+    wide: &mut [u16],
+    quot: &mut [u16],
+    n: usize,
+)
+    requires fits { (1 ≤ n) × ((n < length modulus.now) × ((length out.old ≡ length modulus.now) × ((length even.old ≡ length modulus.now) × (length odd.old ≡ length modulus.now)))) }
+    requires work { (length r.old ≡ length modulus.now) × ((length a.old ≡ length modulus.now) × ((length b.old ≡ length modulus.now) × ((length wide.old ≡ 2 * length modulus.now) × (length quot.old ≡ 2 * length modulus.now)))) }
+    requires degree { Degree F.Field.ops n (coefs F.Field.places modulus.now) }
+    ensures under { Below F.Field.ops n (coefs F.Field.places out.new) }
+    ensures root { (zs : List F) → Splits F.Field.ops n (value F.Field.ops F.Field.places modulus.now) zs → (x : F) → (value F.Field.ops F.Field.places modulus.now) x ≡ F.Field.ops.zero → F.Field.ops.mul ((value F.Field.ops F.Field.places out.new) x) ((value F.Field.ops F.Field.places out.new) x) ≡ x }
+{
+    roots_apart::<F>(modulus, even, odd);
+    inverse_modulo::<F>(modulus, odd, out, r, a, b, n);
+    product_modulo::<F>(even, b, modulus, out, wide, quot, n);
+}
 
-    // Writes a square root of X, where the polynomial has n different zeros: it is even² + X·odd², so even by odd.
-    pub fn root_of_x(&self, roots: &mut Roots<'_>, rows: &mut Rows<'_>, wide: &mut Wide<'_>)
-        requires least { 1 ≤ self.now.n }
-        requires fits { (length roots.old.even.now ≡ length self.now.p.now) × ((length rows.old.s.now ≡ length self.now.p.now) × (length wide.old.whole.now ≡ 2 * length self.now.p.now)) }
-        ensures under { Below F.Field.ops self.now.n (coefs F.Field.places roots.new.x.now) }
-        ensures root { (zs : List F) → Splits F.Field.ops self.now.n (value F.Field.ops F.Field.places self.now.p.now) zs → (x : F) → (value F.Field.ops F.Field.places self.now.p.now) x ≡ F.Field.ops.zero → F.Field.ops.mul ((value F.Field.ops F.Field.places roots.new.x.now) x) ((value F.Field.ops F.Field.places roots.new.x.now) x) ≡ x }
-        ensures kept { (length roots.new.even.now ≡ length roots.old.even.now) × ((length rows.new.s.now ≡ length rows.old.s.now) × (length wide.new.whole.now ≡ length wide.old.whole.now)) }
-    {
-        roots_apart::<F>(self.p, roots.even, roots.odd);
-        self.inverse_modulo(roots.odd, rows);
-        self.product_modulo(roots.even, rows.b, roots.x, wide);
-    }
-
-    // Writes the square root of u, below X^n, from the square root of X.
-    pub fn square_root_modulo(
-        &self,
-        u: &[u16],
-        out: &mut [u16],
-        roots: &mut Roots<'_>,
-        wide: &mut Wide<'_>,
-    )
-        requires fits { (length u.now ≡ length self.now.p.now) × ((length out.old ≡ length self.now.p.now) × ((length roots.old.even.now ≡ length self.now.p.now) × (length wide.old.whole.now ≡ 2 * length self.now.p.now))) }
-        requires under { Below F.Field.ops self.now.n (coefs F.Field.places u.now) }
-        ensures under { Below F.Field.ops self.now.n (coefs F.Field.places out.new) }
-        ensures root { (x : F) → (value F.Field.ops F.Field.places self.now.p.now) x ≡ F.Field.ops.zero → F.Field.ops.mul ((value F.Field.ops F.Field.places roots.old.x.now) x) ((value F.Field.ops F.Field.places roots.old.x.now) x) ≡ x → F.Field.ops.mul ((value F.Field.ops F.Field.places out.new) x) ((value F.Field.ops F.Field.places out.new) x) ≡ (value F.Field.ops F.Field.places u.now) x }
-        ensures kept { (length roots.new.even.now ≡ length roots.old.even.now) × (length wide.new.whole.now ≡ length wide.old.whole.now) }
-    {
-        roots_apart::<F>(u, roots.even, roots.odd);
-        self.product_modulo(roots.x, roots.odd, out, wide);
-        add::<F>(out, roots.even);
-    }
+// Writes the square root of u, below X^n, modulo a polynomial of degree n, from a square root of X.
+pub fn square_root_modulo<F: BinaryField>(
+    u: &[u16],
+    root: &[u16],
+    modulus: &[u16],
+    out: &mut [u16],
+    even: &mut [u16],
+    odd: &mut [u16],
+    wide: &mut [u16],
+    quot: &mut [u16],
+    n: usize,
+)
+    requires fits { (n < length modulus.now) × ((length u.now ≡ length modulus.now) × ((length root.now ≡ length modulus.now) × (length out.old ≡ length modulus.now))) }
+    requires work { (length even.old ≡ length modulus.now) × ((length odd.old ≡ length modulus.now) × ((length wide.old ≡ 2 * length modulus.now) × (length quot.old ≡ 2 * length modulus.now))) }
+    requires degree { Degree F.Field.ops n (coefs F.Field.places modulus.now) }
+    requires under { Below F.Field.ops n (coefs F.Field.places u.now) }
+    ensures under { Below F.Field.ops n (coefs F.Field.places out.new) }
+    ensures root { (x : F) → (value F.Field.ops F.Field.places modulus.now) x ≡ F.Field.ops.zero → F.Field.ops.mul ((value F.Field.ops F.Field.places root.now) x) ((value F.Field.ops F.Field.places root.now) x) ≡ x → F.Field.ops.mul ((value F.Field.ops F.Field.places out.new) x) ((value F.Field.ops F.Field.places out.new) x) ≡ (value F.Field.ops F.Field.places u.now) x }
+{
+    roots_apart::<F>(u, even, odd);
+    product_modulo::<F>(root, odd, modulus, out, wide, quot, n);
+    add::<F>(out, even);
 }

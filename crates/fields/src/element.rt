@@ -11,6 +11,7 @@ pub struct Element<A: Arithmetic> {
     ghost below: { place < 2 ^ A.BITS },
 }
 
+// By hand, since a derive is refused on a struct whose ghost fields name a bound's constant.
 impl<A: Arithmetic> Clone for Element<A> {
     ghost is_clone = { λ x y. y ≡ x };
 

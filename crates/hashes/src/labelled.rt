@@ -34,7 +34,7 @@ impl<H: Hash> Hash for Labelled<H> {
     fn start(&mut self) {
         self.below.start();
         if self.below.capacity() >= 8 {
-            let _ = self.below.take(&self.label.bytes);
+            take_all(&mut self.below, &self.label.bytes);
         }
     }
 
@@ -48,7 +48,7 @@ impl<H: Hash> Hash for Labelled<H> {
     fn finish(&mut self, out: &mut [u8; 32]) {
         self.below.finish(out);
         if self.below.capacity() >= 8 {
-            let _ = self.below.take(&self.label.bytes);
+            take_all(&mut self.below, &self.label.bytes);
         }
     }
 

@@ -1,4 +1,4 @@
-// What a hash means, and the labelled hash over every hash.
+// What a hash means, the labelled hash over every hash, and the streaming hash over every block function.
 #![tactic(auto)]
 
 ghost use Rattle.std.specs.Prelude.{◌≡◌, ℕ, ◌-◌, ◌<◌, ◌≤◌, List, [], ◌++◌, length, Ok, Err};

@@ -36,7 +36,8 @@ pub trait BlockFunction<const N: usize>: Copy {
     ghost wide: { (xs : List ℕ) → length (rule xs) ≡ 32 };
 }
 
-// The state after so many blocks, and the bytes past them, which stand at the front of the block.
+// The state after so many blocks, and the bytes past them, which stand at the front of the block. The block
+// is an array with its fill beside: a hash is copied by value, and a growing buffer is not `Copy`.
 pub struct Stream<B: BlockFunction<N>, const N: usize> {
     state: B,
     absorbed: usize,
@@ -46,6 +47,7 @@ pub struct Stream<B: BlockFunction<N>, const N: usize> {
     ghost few: { N * absorbed + used ≤ 65536 },
 }
 
+// By hand, since a derive is refused on a struct whose ghost fields name a bound's constant.
 impl<B: BlockFunction<N>, const N: usize> Clone for Stream<B, N> {
     ghost is_clone = { λ s t. t ≡ s };
 

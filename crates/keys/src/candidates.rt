@@ -21,8 +21,9 @@ pub fn seed_at(seeds: &[u8], i: usize) -> &Seed
     &seeds.as_chunks::<32>().0[i]
 }
 
-// The number of the first usable seed. A seed is usable if the square matrix of 8 * body rows in
-// front of its HP has a pivot in each column.
+// The number of the first usable seed, absent where none is. A seed is usable if the square matrix of
+// 8 * body rows in front of its HP has a pivot in each column. As a rule of the project the search is one
+// labelled loop over seeds and pivots, so it does not call `matrices::usable`.
 pub fn first_usable<F: BinaryField>(
     code: &Code<'_, F>,
     seeds: &[u8],

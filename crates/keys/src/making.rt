@@ -1,6 +1,6 @@
 // A pair of keys from seeds, over the field of a level.
 ghost use Rattle.std.specs.Prelude.{◌≡◌, ℕ, ◌+◌, ◌*◌, ◌^◌, ◌<◌, ◌≤◌, true, [], ◌∷◌, length, Ok, Err};
-ghost use Rattle.levels.specs.Rows.{answer};
+ghost use Rattle.levels.specs.Rows.{answer, work_of};
 ghost use Rattle.bits.specs.Packed.{matrix};
 ghost use Rattle.bits.specs.Kernels.{independent};
 ghost use Rattle.bits.specs.Reduced.{reduced_of};
@@ -27,7 +27,8 @@ pub struct Seeds<'a> {
     pub code: &'a Seed,
     pub mixing: &'a [u8],
     pub decoy: &'a Seed,
-    ghost whole: { length decoy.now ≡ 32 },
+    // Said once more, since a proof does not see the length of an array behind a reference in a struct.
+    pub ghost whole: { length decoy.now ≡ 32 },
 }
 
 // Writes all elements in the order of a code seed, and the polynomial g, and gives their code.
@@ -96,7 +97,8 @@ impl Parts<'_, '_, '_> {
         let sizes = self.sizes;
         self.write_hp(code, mixing);
         let hp = &mut *self.hp;
-        write_secret(&sizes, code, hp, mixing, decoy, secret_key);
+        let (support, g) = (code.support, code.g);
+        write_secret(&sizes, support, g, hp, mixing, decoy, secret_key);
         write_public(&sizes, hp, public_key);
     }
 
@@ -145,6 +147,7 @@ pub fn make_with<F: BinaryField>(
     requires keys { (length public_key.old ≡ sizes.now.public_key) × (length secret_key.old ≡ sizes.now.secret_key) }
     ensures answer { result ≡ answer (seed_row F.Field.ops F.Field.places sizes.now seeds.now.code.now seeds.now.mixing.now ∷ []) }
     ensures gives { elim result [ Ok _ ↦ Made F.Field.ops F.Field.places sizes.now seeds.now.code.now seeds.now.mixing.now seeds.now.decoy.now public_key.new secret_key.new | Err _ ↦ (public_key.new ≡ public_key.old) × (secret_key.new ≡ secret_key.old) ] }
+    ensures kept { work_of work.new.bytes.now work.new.places.now work.new.positions.now ≡ work_of work.old.bytes.now work.old.places.now work.old.positions.now }
 {
     let bytes = &mut *work.bytes;
     let places = &mut *work.places;

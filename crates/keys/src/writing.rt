@@ -8,8 +8,6 @@ ghost use Rattle.bits.specs.Kernels.{independent};
 ghost use Rattle.keys.specs.Secret.{written, public_key_of};
 
 use bits::{join, write_words};
-use fields::field::Field;
-use goppa::code::Code;
 use levels::Sizes;
 use levels::guards::Place;
 use matrices::{copy_columns, echelon};
@@ -44,20 +42,21 @@ fn write_rest(sizes: &Sizes, hp: &[u8], mixing: &Seed, decoy: &Seed, out: &mut [
 }
 
 // Writes the secret key with these parts; the matrix is in front of HP.
-pub fn write_secret<F: Field>(
+pub fn write_secret(
     sizes: &Sizes,
-    code: &Code<'_, F>,
+    support: &[Place],
+    g: &[Place],
     hp: &[u8],
     mixing: &Seed,
     decoy: &Seed,
     out: &mut [u8],
 )
     requires long { (sizes.now.rows * sizes.now.vector ≤ length hp.now) × (length out.old ≡ sizes.now.secret_key) }
-    requires code { (length code.now.support.now ≡ sizes.now.n) × (length code.now.g.now ≡ sizes.now.t + 1) }
-    ensures { out.new ≡ written sizes.now code.now.support.now code.now.g.now (matrix sizes.now.vector hp.now) mixing.now decoy.now }
+    requires code { (length support.now ≡ sizes.now.n) × (length g.now ≡ sizes.now.t + 1) }
+    ensures { out.new ≡ written sizes.now support.now g.now (matrix sizes.now.vector hp.now) mixing.now decoy.now }
 {
     let at = 2 * sizes.n + 2 * sizes.t;
-    write_elements(code.support, &code.g[0..sizes.t], &mut out[0..at]);
+    write_elements(support, &g[0..sizes.t], &mut out[0..at]);
     write_rest(sizes, hp, mixing, decoy, &mut out[at..]);
 }
 

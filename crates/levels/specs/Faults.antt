@@ -42,3 +42,7 @@ part_name part.Clash = codes "clash"
 part_name part.Zeros = codes "zeros"
 part_name part.Matrix = codes "matrix"
 part_name part.Rank = codes "rank"
+
+abbrev pub name_of_part : Option Part → List ℕ
+name_of_part None = codes "none"
+name_of_part (Some part) = part_name part

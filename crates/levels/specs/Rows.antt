@@ -26,6 +26,7 @@ answer rows = first_of rows tt
 abbrev pub length_row : ℕ → ℕ → ℕ → Row
 length_row buffer is should = row (not (is == should)) (WrongLength buffer)
 
+-- the lengths of the three lent slices
 abbrev pub work_of : List ℕ → List ℕ → List ℕ → WorkLengths
 work_of bytes places positions = record { bytes = length bytes; places = length places; positions = length positions }
 

@@ -1,6 +1,6 @@
 // The faults by which a call says no.
 ghost use Rattle.std.specs.Prelude.{◌≡◌};
-ghost use Rattle.levels.specs.Faults.{report_of, layer_name, part_name};
+ghost use Rattle.levels.specs.Faults.{report_of, layer_name, part_name, name_of_part};
 
 use std::fmt;
 
@@ -102,7 +102,7 @@ impl Layer {
 }
 
 impl Part {
-    // The part's name as it is printed.
+    // The part's name as it is printed. `Display` prints it, and this contract says what it is.
     pub fn name(self) -> &'static str
         ensures { result.now ≡ part_name self }
     {
@@ -113,6 +113,18 @@ impl Part {
             Part::Zeros => "zeros",
             Part::Matrix => "matrix",
             Part::Rank => "rank",
+        }
+    }
+}
+
+impl Report {
+    // The part's name as it is printed, also of a report without one.
+    pub fn part_name(&self) -> &'static str
+        ensures { result.now ≡ name_of_part self.now.part }
+    {
+        match self.part {
+            Some(part) => part.name(),
+            None => "none",
         }
     }
 }
@@ -132,18 +144,9 @@ impl fmt::Display for Part {
 // The four values as lines.
 impl fmt::Display for Report {
     fn fmt<W: fmt::Write>(&self, f: &mut fmt::Formatter<W>) -> fmt::Result {
-        let Report {
-            number,
-            layer,
-            part,
-            place,
-        } = self;
-        writeln!(f, "answer={number}")?;
-        writeln!(f, "layer={layer}")?;
-        match part {
-            Some(part) => writeln!(f, "part={part}")?,
-            None => writeln!(f, "part=none")?,
-        }
-        write!(f, "place={place}")
+        writeln!(f, "answer={}", self.number)?;
+        writeln!(f, "layer={}", self.layer)?;
+        writeln!(f, "part={}", self.part_name())?;
+        write!(f, "place={}", self.place)
     }
 }

@@ -1,6 +1,6 @@
 // The work memory that a caller lends, and guards over it: the end of a guard writes zeros over the
-// whole slice, on every way out of the call that made it. There is one plain guard for each kind of
-// slice, and none is generic, so that what is cleared can be read off each of them.
+// whole slice, on every way out of the call that made it. As a rule of the project there is one plain guard
+// for each kind of slice, and none is generic.
 ghost use Rattle.std.specs.Prelude.{◌≡◌};
 ghost use Rattle.levels.specs.Work.{Cleared};
 

@@ -1,6 +1,6 @@
 // Packed matrices in lent memory, row after row: products with packed vectors, and elimination. A matrix
-// is its bytes and the width of a row and no struct of them: each method that writes would have to say
-// that width and number of rows stay, which is longer than the two parameters.
+// is its bytes and the width of a row and no struct of them: that was tried, and each method that writes
+// then has to say that width and number of rows stay, which is longer than the two parameters.
 #![tactic(auto)]
 
 ghost use Rattle.std.specs.Prelude.{◌≡◌, ℕ, ◌+◌, ◌-◌, ◌*◌, ◌/◌, ◌^◌, ◌<◌, ◌≤◌, true, false, length, MatchBool, MatchOption, MatchResult, is_ok, ◌==◌, ◌≢◌, slice_index, EachIndex, bit_xor};
@@ -64,7 +64,8 @@ pub fn entry(m: &[u8], width: usize, row: usize, col: usize) -> bool
     bits::bit(&m[row * width..], col)
 }
 
-// Adds bytes to as many others.
+// Adds bytes to as many others. It is by place, since after a `zip` with `iter_mut` a proof knows nothing of
+// what was written.
 fn add_rest(into: &mut [u8], from: &[u8])
     requires { length into.old ≡ length from.now }
     ensures { EachIndex into.new (λ k. slice_index into.new k ≡ bit_xor (slice_index into.old k) (slice_index from.now k)) }

@@ -79,19 +79,19 @@ pub fn write_key<H: Hash>(hash: &mut H, e: &[u8], ticket: &[u8], key: &mut [u8; 
 }
 
 // What a seal writes in the work memory from a vector, over any content: its permutation, the order
-// of the permutation, and the body of a ticket.
+// of the permutation, and the body of a ticket. They are lent apart, so each has its own lifetime.
 #[derive(Drop)]
-struct Parts<'a> {
+struct Parts<'v, 'b, 'p> {
     sizes: Sizes,
-    permuted: &'a mut [u8],
-    body: &'a mut [u8],
-    order: &'a mut [Position],
+    permuted: &'v mut [u8],
+    body: &'b mut [u8],
+    order: &'p mut [Position],
     ghost vector: { length permuted.now ≡ sizes.vector },
     ghost back: { length body.now ≡ sizes.body },
     ghost positions: { length order.now ≡ sizes.n },
 }
 
-impl Parts<'_> {
+impl Parts<'_, '_, '_> {
     ghost use Rattle.bits.specs.Packed.{vector, packed};
     ghost use Rattle.sealing.specs.Tickets.{body_of, Seals};
     ghost use Rattle.sealing.specs.Calls.{public_matrix, Sealed};
@@ -151,8 +151,7 @@ impl Parts<'_> {
     }
 }
 
-// Seals in the work memory, once the tests have passed. It takes two of its slices by themselves, since the
-// check does not follow parts of a slice that is a field of another struct.
+// Seals in the work memory, once the tests have passed.
 fn seal_checked<H: Hash>(
     sizes: &Sizes,
     public_key: &[u8],
@@ -160,23 +159,26 @@ fn seal_checked<H: Hash>(
     ticket: &mut [u8],
     key: &mut [u8],
     hash: &mut H,
-    bytes: &mut [u8],
-    positions: &mut [Position],
+    work: &mut Work<'_>,
 )
     requires input { length public_key.now ≡ sizes.now.public_key }
     requires outputs { (length ticket.old ≡ sizes.now.ticket) × (length key.old ≡ 32) }
-    requires work { (sizes.now.work_bytes ≤ length bytes.old) × (sizes.now.work_places ≤ length positions.old) }
+    requires work { (sizes.now.work_bytes ≤ length work.old.bytes.now) × (sizes.now.work_places ≤ length work.old.positions.now) }
     requires capacity { sizes.now.capacity ≤ H.capacity hash.old }
     ensures sealed { Sealed sizes.now (H.rule hash.old) public_key.now ticket_seed.now ticket.new key.new }
     ensures restarted { Restarted H.capacity H.left H.rule H.outcome hash.old hash.new }
 {
+    let bytes = &mut *work.bytes;
+    let positions = &mut *work.positions;
     let (e, rest) = bytes.split_at_mut(sizes.vector);
     let (permuted, rest) = rest.split_at_mut(sizes.vector);
+    let body = &mut rest[..sizes.body];
+    let order = &mut positions[..sizes.n];
     let mut parts = Parts {
         sizes: *sizes,
         permuted,
-        body: &mut rest[..sizes.body],
-        order: &mut positions[..sizes.n],
+        body,
+        order,
     };
     parts.seal(public_key, ticket_seed, ticket, key, hash, e);
 }
@@ -189,9 +191,9 @@ fn seal_within<H: Hash>(
     ticket: &mut [u8],
     key: &mut [u8],
     hash: &mut H,
-    work: Work<'_>,
+    work: &mut Work<'_>,
 ) -> Result<(), Fault>
-    ensures answer { result ≡ accepted (checked_at (level_of level.now) (lengths_of public_key.now ticket_seed.now ticket.old key.old) (work_of work.entry.bytes.now work.entry.places.now work.entry.positions.now) (H.capacity hash.old)) }
+    ensures answer { result ≡ accepted (checked_at (level_of level.now) (lengths_of public_key.now ticket_seed.now ticket.old key.old) (work_of work.old.bytes.now work.old.places.now work.old.positions.now) (H.capacity hash.old)) }
     ensures gives { elim result [ Ok _ ↦ SealedAt (level_of level.now) (H.rule hash.old) public_key.now ticket_seed.now ticket.new key.new × (H.left hash.new ≡ H.capacity hash.old) × (H.outcome hash.new ≡ H.rule hash.old) | Err _ ↦ (ticket.new ≡ ticket.old) × (key.new ≡ key.old) × (hash.new ≡ hash.old) ] }
     ensures same { H.rule hash.new ≡ H.rule hash.old }
     ensures kept { H.capacity hash.new ≡ H.capacity hash.old }
@@ -206,21 +208,7 @@ fn seal_within<H: Hash>(
     let Some(ticket_seed) = ticket_seed.as_array() else {
         unreachable!()
     };
-    let Work {
-        bytes,
-        positions,
-        ..
-    } = work;
-    seal_checked(
-        &sizes,
-        public_key,
-        ticket_seed,
-        ticket,
-        key,
-        hash,
-        bytes,
-        positions,
-    );
+    seal_checked(&sizes, public_key, ticket_seed, ticket, key, hash, work);
     Ok(())
 }
 
@@ -258,7 +246,7 @@ pub fn seal<H: Hash>(
         ticket,
         key,
         hash,
-        Work {
+        &mut Work {
             bytes: &mut b.bytes[..],
             places: &mut e.places[..],
             positions: &mut p.positions[..],

@@ -3,7 +3,7 @@
 #![tactic(auto)]
 
 ghost use Rattle.std.specs.Prelude.{◌≡◌, ◌+◌, ◌*◌, ◌≤◌, length, Ok, Err};
-ghost use Rattle.levels.specs.Rows.{answer};
+ghost use Rattle.levels.specs.Rows.{answer, work_of};
 ghost use Rattle.keys.specs.Secret.{support_in, goppa_in};
 ghost use Rattle.keys.specs.Sound.{sound_rows};
 ghost use Rattle.soundness.specs.Parts.{code_rows, matrix_rows};
@@ -136,7 +136,8 @@ pub fn check_key<F: BinaryField>(
 ) -> Result<(), Fault>
     requires key { (F.Field.BITS ≡ sizes.now.m) × (length key.now ≡ sizes.now.secret_key) }
     requires work { (sizes.now.work_bytes ≤ length work.old.bytes.now) × ((sizes.now.work_places ≤ length work.old.places.now) × (sizes.now.work_places ≤ length work.old.positions.now)) }
-    ensures { result ≡ answer (sound_rows F.Field.ops F.Field.places sizes.now key.now) }
+    ensures answer { result ≡ answer (sound_rows F.Field.ops F.Field.places sizes.now key.now) }
+    ensures kept { work_of work.new.bytes.now work.new.places.now work.new.positions.now ≡ work_of work.old.bytes.now work.old.places.now work.old.positions.now }
 {
     let bytes = &mut *work.bytes;
     let places = &mut *work.places;

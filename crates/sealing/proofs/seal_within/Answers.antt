@@ -10,7 +10,7 @@ use Rattle.sealing.proofs.seal_within.Goals as goal
 pub seal_checked-requires : goal.seal_checked-requires
 seal_checked-requires g c =
     let b : Lengths = lengths_of c.args.public_key.now c.args.ticket_seed.now c.args.ticket.now c.args.key.now in
-    let w : WorkLengths = work_of c.args.work.bytes.now c.args.work.places.now c.args.work.positions.now in
+    let w : WorkLengths = work_of c.args.work.now.bytes.now c.args.work.now.places.now c.args.work.now.positions.now in
     let n = g.H.Hash.capacity c.args.hash.now in
     let e : checked_at (level_of c.args.level.now) b w n ≡ Ok c.in_ok-sizes.sizes =
     ap₂ (λ v k. checked_at (level_of c.args.level.now) b v k) (sym c.lengths.ensures) (sym c.capacity.ensures) ∙ (sym c.check.ensures ∙ c.in_ok-sizes.was) in
@@ -25,7 +25,7 @@ seal_checked-requires g c =
 pub returns : goal.returns
 returns g c =
     let b : Lengths = lengths_of c.args.public_key.now c.args.ticket_seed.now c.args.ticket.now c.args.key.now in
-    let w : WorkLengths = work_of c.args.work.bytes.now c.args.work.places.now c.args.work.positions.now in
+    let w : WorkLengths = work_of c.args.work.now.bytes.now c.args.work.now.places.now c.args.work.now.positions.now in
     let n = g.H.Hash.capacity c.args.hash.now in
     let e : checked_at (level_of c.args.level.now) b w n ≡ Ok c.in_ok-sizes.sizes =
     ap₂ (λ v k. checked_at (level_of c.args.level.now) b v k) (sym c.lengths.ensures) (sym c.capacity.ensures) ∙ (sym c.check.ensures ∙ c.in_ok-sizes.was) in

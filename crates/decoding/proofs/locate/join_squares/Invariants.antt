@@ -6,5 +6,5 @@ abbrev pub invariant-loop-i : goal.invariant-loop-i
 invariant-loop-i g l =
     let f = g.F.Field.ops in
     let pl = g.F.Field.places in
-    (k : ℕ) → k < l.i → ((j : ℕ) → k ≡ 2 * j → get_or l.out k 0 ≡ pl.num (f.mul (coefs pl l.p j) (coefs pl l.p j)))
-    × ((j : ℕ) → k ≡ 2 * j + 1 → get_or l.out k 0 ≡ pl.num (f.mul (coefs pl l.q j) (coefs pl l.q j)))
+    ((j : ℕ) → j < l.i → get_or l.out (2 * j) 0 ≡ pl.num (f.mul (coefs pl l.p j) (coefs pl l.p j)))
+    × ((j : ℕ) → j < l.i → get_or l.out (2 * j + 1) 0 ≡ pl.num (f.mul (coefs pl l.q j) (coefs pl l.q j)))

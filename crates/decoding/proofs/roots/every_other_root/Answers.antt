@@ -1,10 +1,29 @@
-use Rattle.std.proofs.Common.{rules, replicate, drop, ◌≡◌, ◌+◌, ◌-◌, ◌*◌, ◌/◌, ◌%◌, ◌++◌, length, get_or, sym, ap, ◌∙◌, ap₂, arith, length-take, get_or-drop}
+use Rattle.std.proofs.Common.{rules, replicate, ◌≡◌, ◌+◌, ◌*◌, ◌<◌, length, get_or, sym, ap, ◌∙◌, ap₂, arith}
 use native.Mathlib.Decide.{dec_lt}
-use Rattle.std.proofs.lemmas.List.{get_or_append_left, get_or-append_right}
 use Rattle.algebra.proofs.Rings.{ring_laws, mul_zero}
 use Rattle.polys.specs.Coefs.{coefs}
 use Rattle.polys.proofs.Lists.{coefs_at, below_list, get_d_zeros}
+use Rattle.polys.proofs.Points.{below_set, above_set}
 use Rattle.decoding.proofs.roots.every_other_root.Goals as goal
+
+pub loop-j-init : goal.loop-j-init
+loop-j-init g c =
+    let zeros : c.fill.new.self ≡ replicate (length c.args.out.now) 0 = search rules in
+    (λ i h. absurd (omega arith), λ i h. ap (λ l. get_or l i 0) zeros ∙ get_d_zeros (length c.args.out.now) i)
+
+pub loop-j-preserved : goal.loop-j-preserved
+loop-j-preserved g c =
+    let f = g.F.Field.ops in
+    let pl = g.F.Field.places in
+    let j = c.loop-j.j in
+    let w = c.place.result in
+    let within : j < length c.loop-j.out = omega arith in
+    let inv = c.loop-j.invariant in
+    let back : pl.at w ≡ c.square_root.result = ap pl.at c.place.ensures ∙ pl.at_num c.square_root.result in (
+      below_set c.loop-j.out j w within (λ i y. f.mul (pl.at y) (pl.at y) ≡ pl.at (get_or c.args.p.now (2 * i + c.args.start) 0)) inv.0
+          (ap₂ f.mul back back ∙ c.square_root.ensures ∙ c.read.ensures),
+      λ i h. above_set c.loop-j.out j w within i h ∙ inv.1 i (omega arith),
+    )
 
 pub returns : goal.returns
 returns g c =
@@ -13,20 +32,11 @@ returns g c =
     let pl = g.F.Field.places in
     let z = g.met.F.Field.origin in
     let p = c.args.p.now in
+    let out = c.loop-j.out in
     let start = c.args.start in
-    let m = (length p - start) / 2 + (length p - start) % 2 in
-    let roots = c.loop-j.roots in
-    let clear = c.fill.new.self in
-    let out = roots ++ drop m clear in
-    let zeros : clear ≡ replicate (length c.args.out.now) 0 = search rules in
-    let long : length roots ≡ m = omega (arith, length-take m clear) in
-    λ i. elim (dec_lt i (length roots)) [
-      | yes h ↦
-          let at : coefs pl out i ≡ pl.at (get_or roots i 0) = coefs_at k pl out i ∙ ap pl.at (get_or_append_left roots (drop m clear) 0 i h) in
-          ap₂ f.mul at at ∙ c.loop-j.invariant i (omega arith) ∙ sym (coefs_at k pl p (2 * i + start))
+    λ i. elim (dec_lt i c.loop-j.j) [
+      | yes h ↦ ap₂ f.mul (coefs_at k pl out i) (coefs_at k pl out i) ∙ c.loop-j.invariant.0 i h ∙ sym (coefs_at k pl p (2 * i + start))
       | no h ↦
-          let none : get_or out i 0 ≡ 0 =
-          get_or-append_right roots (drop m clear) m i 0 long (omega arith) ∙ get_or-drop m clear (i - m) 0
-          ∙ ap (λ l. get_or l (m + (i - m)) 0) zeros ∙ get_d_zeros (length c.args.out.now) (m + (i - m)) in
-          ap (f.mul (coefs pl out i)) (coefs_at k pl out i ∙ ap pl.at none ∙ z) ∙ mul_zero (ring_laws k) (coefs pl out i) ∙ sym (below_list k pl z p (2 * i + start) (omega arith))
+          let none : coefs pl out i ≡ f.zero = coefs_at k pl out i ∙ ap pl.at (c.loop-j.invariant.1 i (omega arith)) ∙ z in
+          ap (f.mul (coefs pl out i)) none ∙ mul_zero (ring_laws k) (coefs pl out i) ∙ sym (below_list k pl z p (2 * i + start) (omega arith))
     ]

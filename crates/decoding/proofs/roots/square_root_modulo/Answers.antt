@@ -1,4 +1,4 @@
-use Rattle.std.proofs.Common.{rules, ◌≡◌, ℕ, ◌+◌, ◌*◌, sym, ap, ◌∙◌, subst, arith}
+use Rattle.std.proofs.Common.{◌≡◌, ℕ, ◌+◌, ◌*◌, sym, ap, ◌∙◌, subst, arith}
 use Rattle.algebra.specs.Series.{Series, Below}
 use Rattle.polys.specs.Coefs.{coefs}
 use Rattle.polys.specs.Values.{value}
@@ -7,7 +7,7 @@ use Rattle.patterson.proofs.Numbered.{same_from}
 use Rattle.decoding.proofs.Values.{value_plus}
 use Rattle.decoding.proofs.Squares.{roots_below}
 use Rattle.decoding.proofs.OddPart.{root_from}
-use Rattle.decoding.proofs.steps.Modulus.square_root_modulo.Goals as goal
+use Rattle.decoding.proofs.roots.square_root_modulo.Goals as goal
 
 pub returns : goal.returns
 returns g c =
@@ -15,7 +15,7 @@ returns g c =
     let f = g.F.Field.ops in
     let pl = g.F.Field.places in
     let z = g.met.F.Field.origin in
-    let n = c.args.self.now.n in
+    let n = c.args.n in
     let u = c.args.u.now in
     let a = c.roots_apart.new.even in
     let b = c.roots_apart.new.odd in
@@ -26,7 +26,6 @@ returns g c =
     record {
       under = subst (λ (s : Series g.row.F.Denot). Below f n s) (sym c.add.ensures.is) (below_add k n (coefs pl out) (coefs pl a) c.product_modulo.ensures.under low);
       root = λ x at e.
-          root_from k x (value f pl a x) (value f pl b x) (value f pl c.args.roots.now.x.now x) (value f pl u x) (value f pl y x) (c.roots_apart.ensures.values x) e
+          root_from k x (value f pl a x) (value f pl b x) (value f pl c.args.root.now x) (value f pl u x) (value f pl y x) (c.roots_apart.ensures.values x) e
           (value_plus k pl z y out a c.add.ensures.is x ∙ ap (λ w. f.add w (value f pl a x)) (c.product_modulo.ensures.values x at));
-      kept = search rules;
     }

@@ -1,11 +1,11 @@
-use Rattle.std.proofs.Common.{rules, ◌≡◌, ℕ, List, sym, ap, ◌∙◌, subst}
+use Rattle.std.proofs.Common.{◌≡◌, ℕ, List, sym, ap, ◌∙◌, subst}
 use Rattle.polys.specs.Coefs.{coefs}
 use Rattle.polys.specs.Values.{value}
 use Rattle.polys.proofs.Lists.{coefs_at}
 use Rattle.patterson.specs.Polys.{Splits}
 use Rattle.decoding.proofs.Values.{value_same}
 use Rattle.decoding.proofs.Inverses.{inverse_under, inverse_value}
-use Rattle.decoding.proofs.steps.Modulus.inverse_modulo.Goals as goal
+use Rattle.decoding.proofs.roots.inverse_modulo.Goals as goal
 
 pub returns : goal.returns
 returns g c =
@@ -13,7 +13,7 @@ returns g c =
     let f = g.F.Field.ops in
     let pl = g.F.Field.places in
     let z = g.met.F.Field.origin in
-    let n = c.args.self.now.n in
+    let n = c.args.n in
     let q = c.args.q.now in
     let p = c.copy_from_slice.new.self in
     let r = c.copy.new.into in
@@ -32,5 +32,4 @@ returns g c =
           (λ nz. c.inverse_or_zero-e.ensures.inverse (λ w. nz (sym is ∙ w)) ∙ ap f.inv is)
           zs (subst (λ (l : List ℕ). Splits f n (value f pl l) zs) (sym same) sp) (λ u i w. some u i (sym (value_same k pl z r q c.copy.ensures u) ∙ w))
           x (ap (λ (l : List ℕ). value f pl l x) same ∙ at);
-      kept = search rules;
     }

@@ -3,7 +3,7 @@ use Rattle.polys.specs.Coefs.{poly, coefs, mono}
 use Rattle.polys.proofs.Lists.{coefs_zeros, coefs_at, write_new, get_d_zeros}
 use Rattle.polys.proofs.Rule.{one_write}
 use Rattle.decoding.proofs.Values.{shifted_value, shifted_under}
-use Rattle.decoding.proofs.steps.Modulus.shifted_syndrome.Goals as goal
+use Rattle.decoding.proofs.steps.shifted_syndrome.Goals as goal
 
 pub returns : goal.returns
 returns g c =
@@ -20,8 +20,8 @@ returns g c =
     let l = c.add_multiple.new.into in
     let unit = c.one-2.ensures in
     let put = c.add_scaled.ensures.is in
-    let read : c.read-c.result ≡ coefs pl b c.args.self.now.n = c.read-c.ensures ∙ sym (coefs_at k pl b c.args.self.now.n) in
+    let read : c.read-c.result ≡ coefs pl b c.args.t = c.read-c.ensures ∙ sym (coefs_at k pl b c.args.t) in
     record {
-      under = shifted_under k pl z b l c.args.self.now.p.now c.args.self.now.n c.read-c.result (omega (arith, length-set cleared 0 c.place.result)) read c.requires.monic c.add_multiple.ensures.is;
-      values = shifted_value k pl z _ b l c.args.s.now c.args.self.now.p.now c.read-c.result first (cc) c.add_multiple.ensures.is;
+      under = shifted_under k pl z b l c.args.g.now c.args.t c.read-c.result (omega (arith, length-set cleared 0 c.place.result)) read c.requires.monic c.add_multiple.ensures.is;
+      values = shifted_value k pl z _ b l c.args.s.now c.args.g.now c.read-c.result first (cc) c.add_multiple.ensures.is;
     }
