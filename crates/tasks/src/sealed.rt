@@ -1,8 +1,10 @@
 // The customer's seal.
-ghost use Rattle.std.specs.Prelude.{◌≡◌, IfOk};
+ghost use Rattle.std.specs.Prelude.{◌≡◌, IfOk, IfErr, length};
+ghost use Rattle.levels.specs.Rows.{work_of};
 ghost use Rattle.levels.specs.Names.{level_of};
 ghost use Rattle.sealing.specs.Calls.{SealedAt};
 ghost use Rattle.sha3.specs.Sponge.{sha3_rule};
+ghost use Rattle.tasks.specs.Answers.{seal_answer, RefusedBy};
 
 use crate::failures::Failure;
 use crate::memory::Memory;
@@ -29,7 +31,8 @@ pub fn seal(
     seed: &[u8],
     memory: &mut Memory,
 ) -> Result<Sealed, Failure>
-    ensures { IfOk result (λ made. SealedAt (level_of level.now) sha3_rule public_key.now seed.now made.ticket.items made.key.items) }
+    ensures made { IfOk result (λ made. SealedAt (level_of level.now) sha3_rule public_key.now seed.now made.ticket.items made.key.items) }
+    ensures refused { IfErr result (λ failure. RefusedBy (seal_answer (level_of level.now) (length public_key.now) (length seed.now) sizes.now.ticket (work_of memory.old.bytes.items memory.old.places.items memory.old.positions.items)) failure) }
 {
     let mut ticket = vec![in heap; 0u8; sizes.ticket]?;
     let mut key = vec![in heap; 0u8; 32]?;
