@@ -34,6 +34,7 @@ fn make_at(
     requires keys { (length public_key.old ≡ (sizes_of level).public_key) × (length secret_key.old ≡ (sizes_of level).secret_key) }
     ensures answer { result ≡ tried_at (Ok level) seeds.now.code.now seeds.now.mixing.now }
     ensures gives { elim result [ Ok _ ↦ MadeAt (Ok level) seeds.now.code.now seeds.now.mixing.now seeds.now.decoy.now public_key.new secret_key.new | Err _ ↦ (public_key.new ≡ public_key.old) × (secret_key.new ≡ secret_key.old) ] }
+    ensures lengths { work_of work.new.bytes.now work.new.places.now work.new.positions.now ≡ work_of work.old.bytes.now work.old.places.now work.old.positions.now }
 {
     let sizes = level.sizes();
     match level {
@@ -56,6 +57,7 @@ fn make_within(
 ) -> Result<(), Fault>
     ensures answer { result ≡ tried_at (checked_at (level_of level.now) (lengths_of code_seed.now mixing_seeds.now decoy_seed.now public_key.old secret_key.old) (work_of work.old.bytes.now work.old.places.now work.old.positions.now)) code_seed.now mixing_seeds.now }
     ensures gives { elim result [ Ok _ ↦ MadeAt (level_of level.now) code_seed.now mixing_seeds.now decoy_seed.now public_key.new secret_key.new | Err _ ↦ (public_key.new ≡ public_key.old) × (secret_key.new ≡ secret_key.old) ] }
+    ensures lengths { work_of work.new.bytes.now work.new.places.now work.new.positions.now ≡ work_of work.old.bytes.now work.old.places.now work.old.positions.now }
 {
     let buffers = Lengths {
         code_seed: code_seed.len(),

@@ -167,6 +167,7 @@ fn seal_checked<H: Hash>(
     requires capacity { sizes.now.capacity ≤ H.capacity hash.old }
     ensures sealed { Sealed sizes.now (H.rule hash.old) public_key.now ticket_seed.now ticket.new key.new }
     ensures restarted { Restarted H.capacity H.left H.rule H.outcome hash.old hash.new }
+    ensures lengths { work_of work.new.bytes.now work.new.places.now work.new.positions.now ≡ work_of work.old.bytes.now work.old.places.now work.old.positions.now }
 {
     let bytes = &mut *work.bytes;
     let positions = &mut *work.positions;
@@ -197,6 +198,7 @@ fn seal_within<H: Hash>(
     ensures gives { elim result [ Ok _ ↦ SealedAt (level_of level.now) (H.rule hash.old) public_key.now ticket_seed.now ticket.new key.new × (H.left hash.new ≡ H.capacity hash.old) × (H.outcome hash.new ≡ H.rule hash.old) | Err _ ↦ (ticket.new ≡ ticket.old) × (key.new ≡ key.old) × (hash.new ≡ hash.old) ] }
     ensures same { H.rule hash.new ≡ H.rule hash.old }
     ensures kept { H.capacity hash.new ≡ H.capacity hash.old }
+    ensures lengths { work_of work.new.bytes.now work.new.places.now work.new.positions.now ≡ work_of work.old.bytes.now work.old.places.now work.old.positions.now }
 {
     let buffers = Lengths {
         public_key: public_key.len(),

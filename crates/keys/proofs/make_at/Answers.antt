@@ -7,7 +7,7 @@ returns-in-Sample c =
     at_sample c.make_with.result c.args.seeds.now.code.now c.args.seeds.now.mixing.now c.args.seeds.now.decoy.now c.make_with.new.public_key c.make_with.new.secret_key _
     c.args.level c.sizes-sizes.result c.in-Sample.is c.sizes-sizes.ensures.table
     (record { answer = c.make_with.ensures.answer; gives = c.make_with.ensures.gives }) in
-    record { answer = h.answer; gives = h.gives }
+    record { answer = h.answer; gives = h.gives; lengths = c.make_with.ensures.kept }
 
 pub returns-in-Level128 : goal.returns-in-Level128
 returns-in-Level128 c =
@@ -15,4 +15,4 @@ returns-in-Level128 c =
     at_large c.make_with-in-Level128.result c.args.seeds.now.code.now c.args.seeds.now.mixing.now c.args.seeds.now.decoy.now c.make_with-in-Level128.new.public_key c.make_with-in-Level128.new.secret_key _
     c.args.level c.sizes-sizes.result (no_sample c.args.level c.in-Level128.is) c.sizes-sizes.ensures.table
     (record { answer = c.make_with-in-Level128.ensures.answer; gives = c.make_with-in-Level128.ensures.gives }) in
-    record { answer = h.answer; gives = h.gives }
+    record { answer = h.answer; gives = h.gives; lengths = c.make_with-in-Level128.ensures.kept }

@@ -36,4 +36,5 @@ returns c =
       gives =
           subst (λ lv. P lv c.args.code_seed.now c.args.decoy_seed.now) (sym (named (level_of c.args.level.now) c.in_ok-level.level b w e))
           (subst (λ x. P (Ok c.in_ok-level.level) x c.args.decoy_seed.now) ec (subst (P (Ok c.in_ok-level.level) c.in-Some.code_seed.now) ed c.make_at.ensures.gives));
+      lengths = c.make_at.ensures.lengths;
     }

@@ -41,4 +41,5 @@ returns g c =
       );
       same = c.seal_checked.ensures.restarted.same;
       kept = c.seal_checked.ensures.restarted.kept;
+      lengths = c.seal_checked.ensures.lengths;
     }
