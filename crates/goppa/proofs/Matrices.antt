@@ -1,5 +1,5 @@
 -- Columns as bits.
-use Rattle.std.proofs.Common.{◌≡◌, ℕ, ◌+◌, ◌-◌, ◌*◌, ◌/◌, ◌%◌, ◌<◌, ◌≤◌, ◌&&◌, ltb, List, get_or, replicate, sym, refl, ap, ◌∙◌, inl, inr, mul_comm, arith}
+use Rattle.std.proofs.Common.{◌≡◌, ℕ, ◌+◌, ◌-◌, ◌*◌, ◌/◌, ◌%◌, ◌<◌, ◌≤◌, Bool, true, false, ◌&&◌, ltb, List, get_or, replicate, sym, refl, ap, ◌∙◌, inl, inr, mul_comm, arith}
 use Rattle.std.proofs.lemmas.Nat.{div_below}
 use Rattle.std.proofs.lemmas.List.{get_or-replicate, get_or_past, length-replicate}
 use Rattle.std.proofs.lemmas.Bool.{cases_lt, cases_eq, eq-eqb, ne_eqb, lt-ltb, le-ltb, le-leb}
@@ -21,6 +21,11 @@ module _ {A : Type 0} {m : ℕ} (f : Ops A) (pl : Places A m) (t : ℕ) (g q : L
   pub column_bits_lem : 0 < m → (i : ℕ) → i < m * t → bits_of m q i ≡ column_bits f pl t g x i
   unfolding bits_of column_bits
   column_bits_lem p i l = ap (λ y. number_bit y (i % m)) (place (i / m) (div_below i m t p (omega (arith, mul_comm m t))))
+
+-- an answer that means P, or else Q, means P where Q can't be
+pub sure : (o : Bool) (P Q : Type 0) → elim o as (λ _. Type 0) [ true ↦ P | false ↦ Q ] → (Q → ⊥) → P
+sure true P Q p n = p
+sure false P Q q n = absurd (n q)
 
 -- the first c columns of B are those of M, and the others are zero
 pub WrittenColumns : ℕ → ℕ → ℕ → Matrix → Matrix → Type 0

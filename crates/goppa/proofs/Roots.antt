@@ -1,7 +1,8 @@
 -- The product of the X - b over a list: it is monic, and its values are the products of the x - b.
-use Rattle.std.proofs.Common.{◌≡◌, ℕ, zero, suc, ◌<◌, List, [], ◌∷◌, ◌++◌, map, reverse, length, get_or, sym, refl, ap, ◌∙◌, ap₂, inl, inr, arith}
+use Rattle.std.proofs.Common.{◌≡◌, ℕ, zero, suc, ◌-◌, ◌<◌, ◌≤◌, List, [], ◌∷◌, ◌++◌, map, reverse, length, get_or, drop, sym, refl, ap, ◌∙◌, ap₂, inl, inr, arith, drop-cons}
 use Rattle.std.proofs.lemmas.List.{reverse-append}
 use mathlib.Core.Path.{fun_ext}
+use lib.Seq.{drop-length}
 use Rattle.std.proofs.lemmas.Bool.{cases_eq}
 use Rattle.algebra.specs.Field.{Ops, Laws, Places}
 use Rattle.algebra.specs.Ring.{ring_of}
@@ -81,6 +82,21 @@ module _ {A : Type 0} {f : Ops A} (k : Laws f) where
     pub from_more : (seen : List ℕ) (b : ℕ) → from_zeros f (map pl.at (reverse (seen ++ b ∷ []))) ≡ (poly f).mul (linear f (pl.at b)) (from_zeros f (map pl.at (reverse seen)))
     unfolding from_zeros
     from_more seen b = ap (λ (l : List ℕ). from_zeros f (map pl.at l)) (reverse-append seen (b ∷ []))
+
+    -- no zeros: the product is one
+    pub from_none : (zs : List ℕ) → from_zeros f (map pl.at (drop (length zs) zs)) ≡ (poly f).one
+    unfolding from_zeros
+    from_none zs = ap (λ (l : List ℕ). from_zeros f (map pl.at l)) (drop-length zs)
+
+    -- the zeros from place n - 1 of a list on: those from place n on, and one more
+    pub from_more_at : (zs : List ℕ) (n : ℕ) → 0 < n → n ≤ length zs
+        → from_zeros f (map pl.at (drop (n - 1) zs)) ≡ (poly f).mul (linear f (pl.at (get_or zs (n - 1) 0))) (from_zeros f (map pl.at (drop n zs)))
+    unfolding from_zeros
+    from_more_at zs n pos le =
+        let lt : n - 1 < length zs = omega arith in
+        let up : suc (n - 1) ≡ n = omega arith in
+        ap (λ (l : List ℕ). from_zeros f (map pl.at l)) (drop-cons zs (n - 1) 0 lt)
+        ∙ ap (λ (j : ℕ). (poly f).mul (linear f (pl.at (get_or zs (n - 1) 0))) (from_zeros f (map pl.at (drop j zs)))) up
 
     pub value_from : (g zs : List ℕ) → coefs pl g ≡ from_zeros f (map pl.at zs) → (x : A) → value f pl g x ≡ differences f (map pl.at zs) x
     unfolding value
