@@ -168,3 +168,8 @@ pub reduced_decides :
     → MatchBool (is_ok o) (Independent r A) (Dependent r A)
 reduced_decides r n A B (Ok x) h = injective r n A B h
 reduced_decides r n A B (Err e) h = h
+
+-- the same, where it answers yes or no
+pub reduced_decides_if : (r n : ℕ) (A B : Matrix) (b : Bool) → MatchBool b (Reduced r n A B) (Dependent r A) → MatchBool b (Independent r A) (Dependent r A)
+reduced_decides_if r n A B true h = injective r n A B h
+reduced_decides_if r n A B false h = h
