@@ -120,6 +120,16 @@ pub order_read :
     → l ≡ order s.n (mixing_in s key)
 order_read s key l seed n e es h = h ∙ rw (e, es, mixing_part s key)
 
+mixing_bytes : (s : Sizes) (key : List ℕ) → take (mixing_from s + 32 - mixing_from s) (drop (mixing_from s) key) ≡ mixing_in s key
+unfolding mixing_in
+mixing_bytes s key = let e : mixing_from s + 32 - mixing_from s ≡ 32 = omega arith in rw e
+
+-- the same, by the 32 bytes of the key from where its mixing seed begins
+pub order_read_at :
+    (s : Sizes) (key l : List ℕ) (n : ℕ) → n ≡ s.n → l ≡ order n (take (mixing_from s + 32 - mixing_from s) (drop (mixing_from s) key))
+    → l ≡ order s.n (mixing_in s key)
+order_read_at s key l n e h = h ∙ rw (e, mixing_bytes s key)
+
 -- rows in which two matrices differ
 module _ (r : ℕ) (M : Matrix) where
   pub same_rows :

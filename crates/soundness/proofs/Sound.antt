@@ -1,10 +1,11 @@
 -- What a sound key is: its tests, each as a fact, and the Goppa code that it holds.
-use Rattle.std.proofs.Common.{◌≡◌, ℕ, zero, suc, ◌+◌, ◌^◌, ◌<◌, true, false, eqb, ltb, List, [], ◌∷◌, map, length, get_or, take, sym, ap, ◌∙◌, inl, inr, arith}
+use Rattle.std.proofs.Common.{◌≡◌, ℕ, zero, suc, ◌+◌, ◌^◌, ◌<◌, true, false, eqb, ltb, List, [], ◌∷◌, map, length, get_or, take, Ok, sym, ap, ◌∙◌, inl, inr, arith}
 use Rattle.std.proofs.lemmas.List.{get_or-take, get_or-map, length-map, length-take-le}
 use Rattle.std.proofs.lemmas.Bool.{both_ways, cases_order, or_left, or_right, or_parts, ltb-true, eqb-true, not-false, eq-eqb}
 use Rattle.levels.specs.declared.Sizes.{Sizes}
 use Rattle.levels.specs.declared.faults.Defect.TheVariants.{Support, Coefficient, Clash, Zeros, Matrix, Rank}
 use Rattle.levels.specs.Table.{Lawful}
+use Rattle.levels.specs.Rows.{answer}
 use Rattle.algebra.specs.Field.{Ops, Laws, Places}
 use Rattle.algebra.specs.Poly.{eval}
 use Rattle.polys.specs.Values.{value}
@@ -18,7 +19,7 @@ use Rattle.patterson.specs.Points.{In, Distinct}
 use Rattle.patterson.specs.Code.{GoppaCode}
 use Rattle.keys.specs.Secret.{support_in, goppa_in, matrix_in, mixed_in, key_matrix}
 use Rattle.keys.specs.Sound.{no_place, zero_at, coefficient_row, clash_row, zeros_row, rank_row, Sound}
-use Rattle.soundness.specs.Parts.{matrix_rows}
+use Rattle.soundness.specs.Parts.{code_rows, matrix_rows}
 use Rattle.soundness.specs.Zeros.{zero_places}
 use Rattle.soundness.proofs.Answering.{place_passed, number_passed}
 use Rattle.soundness.proofs.Numbers.{support_long, support_entry, same_rows}
@@ -71,6 +72,16 @@ tested {m = m} f pl s key e =
     let p₅ = place_passed s.rows (differs f pl s key) Matrix (rank_row s key ∷ []) p₄.1 in
     let p₆ = number_passed (rank_in f pl s key) s.rows Rank [] p₅.1 in
     record { support = p₁.0; coefficients = p₂.0; off = p₃.0; zeros = p₄.0; rows = p₅.0; rank = p₆.0 }
+
+-- no support entry of a code that passes its tests is a zero of g
+pub code_off :
+    {A : Type 0} {m : ℕ} (f : Ops A) (pl : Places A m) → pl.at 0 ≡ f.zero → (s : Sizes) (key : List ℕ) → answer (code_rows f pl s key) ≡ Ok tt
+    → (j : ℕ) → j < s.n → value f pl (goppa_in f pl s key) (pl.at (get_or (support_in s key) j 0)) ≡ f.zero → ⊥
+code_off {m = m} f pl z s key e j l q =
+    let p₁ = place_passed s.n (unfit m s key) Support (coefficient_row m s key ∷ clash_row f pl s key ∷ zeros_row f pl s key ∷ []) e in
+    let p₂ = place_passed s.t (outside m s key) Coefficient (clash_row f pl s key ∷ zeros_row f pl s key ∷ []) p₁.1 in
+    let p₃ = place_passed s.n (clashes f pl s key) Clash (zeros_row f pl s key ∷ []) p₂.1 in
+    no_zero f pl z (goppa_in f pl s key) (get_or (support_in s key) j 0) (ap (zero_at f pl (goppa_in f pl s key)) (support_entry s key j l) ∙ p₃.0 j l) q
 
 module _ {A : Type 0} {m : ℕ} {f : Ops A} (k : Laws f) (pl : Places A m) (z : pl.at 0 ≡ f.zero) (s : Sizes) (h : Lawful s) (key : List ℕ) (sound : Sound f pl s key) where
   -- each support entry is a place
