@@ -1,5 +1,5 @@
 -- HP in memory, and the reduced row echelon form of it as it is written.
-use Rattle.std.proofs.Common.{◌≡◌, ℕ, ◌+◌, ◌-◌, ◌*◌, ◌<◌, true, false, List, ◌++◌, take, Ok, Err, Result, is_ok, MatchResult, sym, refl, ap, ◌∙◌, arith}
+use Rattle.std.proofs.Common.{◌≡◌, ℕ, ◌+◌, ◌-◌, ◌*◌, ◌<◌, Bool, true, false, List, ◌++◌, take, Ok, Err, Result, is_ok, MatchBool, MatchResult, sym, refl, ap, ◌∙◌, arith}
 use Rattle.std.proofs.lemmas.Bool.{both_ways}
 use Rattle.levels.specs.declared.Sizes.{Sizes}
 use Rattle.levels.specs.Table.{Lawful}
@@ -23,6 +23,10 @@ when_ok : {E : Type 0} → (o : Result (Unit {0}) E) (P Q : Type 0) → MatchRes
 when_ok (Ok x) P Q p e = p
 when_ok (Err x) P Q q e = absurd (both_ways false refl e)
 
+when_true : (b : Bool) (P Q : Type 0) → MatchBool b P Q → b ≡ true → P
+when_true true P Q p e = p
+when_true false P Q q e = absurd (both_ways false refl e)
+
 -- what the elimination of a matrix with independent columns in front writes
 pub written_form :
     {E : Type 0} → (s : Sizes) → Lawful s → (o : Result (Unit {0}) E) (hp out : List ℕ)
@@ -35,6 +39,19 @@ written_form s h o hp out w d i =
     let w' = rw (r, v) at w in
     let d' = rw (r, v) at d in
     when_ok o _ (Unit {0}) w' (d' ∙ i)
+
+-- the same, where the elimination answers yes or no
+pub written_form_if :
+    (s : Sizes) → Lawful s → (b : Bool) (hp out : List ℕ)
+    → MatchBool b (Same (8 * s.body) (8 * (s.vector - s.body)) (reduced_of (8 * s.body) (matrix (s.body + (s.vector - s.body)) hp)) (matrix (s.vector - s.body) out)) (Unit {0})
+    → b ≡ independent (8 * s.body) (matrix (s.body + (s.vector - s.body)) hp) → independent s.rows (matrix s.vector hp) ≡ true
+    → (i j : ℕ) → i < s.rows → j < 8 * (s.vector - s.body) → matrix (s.vector - s.body) out i j ≡ reduced_of s.rows (matrix s.vector hp) i j
+written_form_if s h b hp out w d i =
+    let r : 8 * s.body ≡ s.rows = sym h.body in
+    let v : s.body + (s.vector - s.body) ≡ s.vector = omega (arith, h.shorter) in
+    let w' = rw (r, v) at w in
+    let d' = rw (r, v) at d in
+    when_true b _ (Unit {0}) w' (d' ∙ i)
 
 -- HP, written column by column
 pub mixed_same :

@@ -1,7 +1,7 @@
 -- What the steps of a make say of the seeds.
 use Rattle.std.specs.Simd.{first_chunks}
 use Rattle.std.proofs.lemmas.List.{drop-drop}
-use Rattle.std.proofs.Common.{◌≡◌, ℕ, zero, suc, refl, ap, get_or, ◌*◌, ◌<◌, ◌≤◌, true, false, eqb, List, [], ◌∷◌, length, take, drop, Ok, Err, Option, sym, ◌∙◌, mul-le-mul_left, arith, length-drop, length-take}
+use Rattle.std.proofs.Common.{◌≡◌, ℕ, zero, suc, refl, ap, get_or, ◌+◌, ◌-◌, ◌*◌, ◌<◌, ◌≤◌, true, false, eqb, List, [], ◌∷◌, length, take, drop, Ok, Err, Option, sym, ◌∙◌, mul-le-mul_left, arith, length-drop, length-take}
 use Rattle.std.proofs.lemmas.Bool.{eq-eqb, ne_eqb}
 use Rattle.levels.specs.declared.Sizes.{Sizes}
 use Rattle.levels.specs.declared.faults.Fault.TheVariants.{NoUsableSeed}
@@ -9,7 +9,7 @@ use Rattle.levels.specs.Rows.{answer}
 use Rattle.levels.specs.Table.{Lawful}
 use Rattle.algebra.specs.Field.{Ops, Places}
 use Rattle.bits.specs.Kernels.{independent}
-use Rattle.bits.specs.Search.{Found}
+use Rattle.bits.specs.Search.{first_place, Found}
 use Rattle.bits.proofs.Search.{first_here}
 use Rattle.shuffles.specs.Orders.{order}
 use Rattle.goppa.specs.Matrix.{mixed_matrix}
@@ -22,6 +22,10 @@ pub chunk_at : (k i : ℕ) (seeds : List ℕ) → i < k → get_or (first_chunks
 chunk_at zero i seeds l = absurd (omega arith)
 chunk_at (suc k) zero seeds l = refl
 chunk_at (suc k) (suc i) seeds l = chunk_at k i (drop 32 seeds) (omega arith) ∙ ap (take 32) (drop-drop (32 * i) 32 seeds ∙ ap (λ (j : ℕ). drop j seeds) (omega arith))
+
+-- a seed, as a part of the list
+pub seed_part : (seeds : List ℕ) (i : ℕ) → take (32 * i + 32 - 32 * i) (drop (32 * i) seeds) ≡ seed_of seeds i
+seed_part seeds i = let e : 32 * i + 32 - 32 * i ≡ 32 = omega arith in rw e
 
 pub seed_length : (seeds : List ℕ) (i : ℕ) → i < count_of seeds → length (seed_of seeds i) ≡ 32
 seed_length seeds i l = simp (length-take, length-drop) (omega arith)
@@ -40,10 +44,22 @@ module _ {A : Type 0} {m : ℕ} (f : Ops A) (pl : Places A m) (s : Sizes) (code 
       → Found o (count_of seeds) (λ i. independent r (mixed_matrix f pl t g support (order n (seed_of seeds i)))) → Taken o f pl s code seeds
   taken_same o r t n g support er et en eg es h = rw (er, et, en, eg, es) at h
 
+  -- the place that the search finds, over the same
+  pub taken_same_place :
+      (r t n : ℕ) (g support : List ℕ) → r ≡ s.rows → t ≡ s.t → n ≡ s.n → g ≡ goppa_of f pl s code → support ≡ support_of_seed m s code
+      → first_place (count_of seeds) (λ i. independent r (mixed_matrix f pl t g support (order n (seed_of seeds i)))) ≡ taken_of f pl s code seeds
+  taken_same_place r t n g support er et en eg es = rw (er, et, en, eg, es)
+
   pub none_usable : taken_of f pl s code seeds ≡ count_of seeds → Err (NoUsableSeed (count_of seeds)) ≡ answer (seed_row f pl s code seeds ∷ [])
   none_usable e =
       let b : eqb (taken_of f pl s code seeds) (count_of seeds) ≡ true = eq-eqb (taken_of f pl s code seeds) (count_of seeds) e in
       rw b
+
+  -- the same, by the place that the search finds
+  pub none_usable_at : (taken : ℕ) → taken ≡ taken_of f pl s code seeds → taken ≡ count_of seeds → Err (NoUsableSeed taken) ≡ answer (seed_row f pl s code seeds ∷ [])
+  none_usable_at taken et ec =
+      let b : eqb (taken_of f pl s code seeds) (count_of seeds) ≡ true = eq-eqb (taken_of f pl s code seeds) (count_of seeds) (sym et ∙ ec) in
+      rw (b, ec)
 
   pub one_usable : (taken : ℕ) → taken ≡ taken_of f pl s code seeds → taken < count_of seeds → Ok tt ≡ answer (seed_row f pl s code seeds ∷ [])
   one_usable taken et lt =
