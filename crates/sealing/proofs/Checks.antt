@@ -5,15 +5,17 @@ use Rattle.levels.specs.declared.Sizes.{Sizes}
 use Rattle.levels.specs.declared.checks.WorkLengths.{WorkLengths}
 use Rattle.levels.specs.declared.faults.Fault.{Fault}
 use Rattle.levels.specs.declared.faults.Fault.TheVariants.{ShortWork, SmallCapacity}
-use Rattle.levels.specs.Table.{sizes_of}
+use Rattle.levels.specs.Table.{sizes_of, Lawful}
 use Rattle.levels.specs.Rows.{Row, row, length_row, capacity_row}
 use Rattle.levels.proofs.Rows.{last_passed, length_passed, bound_passed}
+use Rattle.levels.proofs.Table.{lawful}
 use Rattle.sealing.specs.declared.Lengths.{Lengths}
 use Rattle.sealing.specs.Tickets.{Rule}
 use Rattle.sealing.specs.Calls.{seal_rows, checked_at, Sealed, SealedAt}
 
 -- what the tests of a seal leave true
 pub record Fits (s : Sizes) (b : Lengths) (w : WorkLengths) (capacity : ℕ) : Type 0 where
+  pub lawful : Lawful s
   pub public : b.public_key ≡ s.public_key
   pub seed : b.ticket_seed ≡ 32
   pub ticket : b.ticket ≡ s.ticket
@@ -44,6 +46,7 @@ fits (Ok l) s b w n e =
     let p₇ = bound_passed n x.capacity SmallCapacity [] x s p₆.1 in
     let P : Sizes → Type 0 = λ y. Fits y b w n in
     subst P (sym (last_passed [] x s p₇.1)) (record {
+      lawful = lawful x;
       public = p₀.0;
       seed = p₁.0;
       ticket = p₂.0;
