@@ -1,8 +1,9 @@
 -- What the loops of the compression function keep.
-use Rattle.std.proofs.Common.{◌≡◌, ℕ, suc, ◌+◌, ◌-◌, ◌*◌, ◌<◌, ◌≤◌, List, [], ◌∷◌, ◌++◌, length, get_or, take, drop, set, sym, refl, ap, ◌∙◌, ap₂, add-one, arith}
+use Rattle.std.proofs.Common.{◌≡◌, ℕ, suc, ◌+◌, ◌-◌, ◌*◌, ◌<◌, ◌≤◌, List, [], ◌∷◌, ◌++◌, map, length, get_or, take, drop, set, sym, refl, ap, ◌∙◌, ap₂, add-zero, add-one, arith}
 use Rattle.std.specs.Int.{w64, from_be_bytes}
+use Rattle.std.specs.List.{range_with_len}
 use Rattle.std.proofs.lemmas.List.FromFn.{fill_by_all}
-use Rattle.std.proofs.lemmas.List.{length-take-le, get_or-take, take_more_set}
+use Rattle.std.proofs.lemmas.List.{length-take, length-drop, length-take-le, get_or-take, get_or-drop, take_more_set}
 use Rattle.sha512.specs.Sha512.{plus, big_endian, words, word_after, schedule, constants, round, rounds, sums}
 
 -- what from_be_bytes makes of eight bytes
@@ -11,6 +12,22 @@ unfolding big_endian
 word_is xs n =
     let e = ap big_endian (fill_by_all (λ j. get_or xs j 0) xs 8 0 n (λ j h. refl)) in
     omega (arith, e)
+
+eight : (xs : List ℕ) (k : ℕ) → k + 8 ≤ length xs → take 8 (drop k xs) ≡ map (λ j. get_or xs (k + j) 0) (range_with_len 0 8)
+eight xs k h =
+    fill_by_all (λ j. get_or xs (k + j) 0) (take 8 (drop k xs)) 8 0 (simp (length-take, length-drop) (omega arith))
+    (λ j l. get_or-take 8 (drop k xs) j 0 l ∙ get_or-drop k xs j 0)
+
+-- the word that eight bytes from place k on make
+pub word_at : (xs : List ℕ) (k : ℕ) → k + 8 ≤ length xs
+    → get_or xs k 0 * 72057594037927936 + get_or xs (k + 1) 0 * 281474976710656 + get_or xs (k + 2) 0 * 1099511627776 + get_or xs (k + 3) 0 * 4294967296
+    + get_or xs (k + 4) 0 * 16777216 + get_or xs (k + 5) 0 * 65536 + get_or xs (k + 6) 0 * 256 + get_or xs (k + 7) 0
+    ≡ big_endian (take 8 (drop k xs))
+unfolding big_endian
+word_at xs k h =
+    let z : get_or xs (k + 0) 0 ≡ get_or xs k 0 = ap (λ j. get_or xs j 0) (add-zero k) in
+    let e = ap big_endian (eight xs k h) in
+    omega (arith, e, z)
 
 pub words_all : (block w : List ℕ) → 16 ≤ length w
     → ((k : ℕ) → k < 16 → get_or w k 0 ≡ big_endian (take 8 (drop (8 * k) block))) → take 16 w ≡ words block

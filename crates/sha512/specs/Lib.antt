@@ -1,3 +1,4 @@
 pub mod Sha512
 pub mod Takes
 pub mod Blocks
+pub mod Pushes
