@@ -21,6 +21,14 @@ fn write_front(m: &[u8], width: usize, rows: usize, out: &mut [u8], some: usize)
     copy_columns(m, width, rows, 0, out, some);
 }
 
+// Writes two seeds.
+fn write_seeds(mixing: &Seed, decoy: &Seed, out: &mut [u8])
+    requires { length out.old ≡ 64 }
+    ensures { out.new ≡ mixing.now ++ decoy.now }
+{
+    join(mixing, decoy, out);
+}
+
 // Writes the support and the coefficients of g but for the last.
 fn write_elements(support: &[Place], g: &[Place], out: &mut [u8])
     requires { length out.old ≡ 2 * length support.now + 2 * length g.now }
@@ -38,7 +46,7 @@ fn write_rest(sizes: &Sizes, hp: &[u8], mixing: &Seed, decoy: &Seed, out: &mut [
 {
     let at = sizes.rows * sizes.body;
     write_front(hp, sizes.vector, sizes.rows, &mut out[0..at], sizes.body);
-    join(mixing, decoy, &mut out[at..]);
+    write_seeds(mixing, decoy, &mut out[at..]);
 }
 
 // Writes the secret key with these parts; the matrix is in front of HP.

@@ -6,5 +6,5 @@ pub returns : goal.returns
 returns c =
     let s = c.args.sizes.now in
     let n = s.rows * s.body in
-    two_copies n c.write_front.new.out c.join.new.out (drop (n - 0) c.args.out.now) (omega arith)
-    ∙ ap₂ (λ (x y : List ℕ). x ++ y) c.write_front.ensures c.join.ensures
+    two_copies n c.write_front.new.out c.write_seeds.new.out (drop (n - 0) c.args.out.now) (omega arith)
+    ∙ ap₂ (λ (x y : List ℕ). x ++ y) c.write_front.ensures c.write_seeds.ensures
