@@ -5,7 +5,7 @@ ghost use Rattle.bits.specs.Packed.{matrix};
 ghost use Rattle.bits.specs.Kernels.{independent};
 ghost use Rattle.bits.specs.Reduced.{reduced_of};
 ghost use Rattle.keys.specs.Secret.{written, mixed_by, public_key_of};
-ghost use Rattle.keys.specs.Seeds.{support_of_seed, goppa_of};
+ghost use Rattle.keys.specs.Seeds.{support_of_seed, goppa_of, seed_of, count_of};
 ghost use Rattle.keys.specs.Calls.{seed_row, Made};
 
 use crate::candidates::{first_usable, seed_at};
@@ -78,7 +78,29 @@ impl Parts<'_, '_, '_> {
         write_mixed(code, self.order, self.column, self.hp, self.sizes.vector);
     }
 
-    // Writes both keys of a code and a usable mixing seed. S⁻¹ is taken before HP is reduced.
+    // Writes both keys from HP, whose first columns are independent. S⁻¹ is taken before HP is reduced.
+    fn write_keys<F: BinaryField>(
+        &mut self,
+        code: &Code<'_, F>,
+        mixing: &Seed,
+        decoy: &Seed,
+        public_key: &mut [u8],
+        secret_key: &mut [u8],
+    )
+        requires code { (length code.now.g.now ≡ self.old.sizes.t + 1) × (length code.now.support.now ≡ self.old.sizes.n) }
+        requires keys { (length public_key.old ≡ self.old.sizes.public_key) × (length secret_key.old ≡ self.old.sizes.secret_key) }
+        requires front { independent self.old.sizes.rows (matrix self.old.sizes.vector self.old.hp.now) ≡ true }
+        ensures public { public_key.new ≡ public_key_of self.old.sizes (reduced_of self.old.sizes.rows (matrix self.old.sizes.vector self.old.hp.now)) }
+        ensures secret { secret_key.new ≡ written self.old.sizes code.now.support.now code.now.g.now (matrix self.old.sizes.vector self.old.hp.now) mixing.now decoy.now }
+    {
+        let sizes = self.sizes;
+        let hp = &mut *self.hp;
+        let (support, g) = (code.support, code.g);
+        write_secret(&sizes, support, g, hp, mixing, decoy, secret_key);
+        write_public(&sizes, hp, public_key);
+    }
+
+    // Writes both keys of a code and a usable mixing seed.
     fn write_pair<F: BinaryField>(
         &mut self,
         code: &Code<'_, F>,
@@ -94,12 +116,29 @@ impl Parts<'_, '_, '_> {
         ensures public { public_key.new ≡ public_key_of self.old.sizes (reduced_of self.old.sizes.rows (mixed_by F.Field.ops F.Field.places self.old.sizes code.now.support.now code.now.g.now mixing.now)) }
         ensures secret { secret_key.new ≡ written self.old.sizes code.now.support.now code.now.g.now (mixed_by F.Field.ops F.Field.places self.old.sizes code.now.support.now code.now.g.now mixing.now) mixing.now decoy.now }
     {
-        let sizes = self.sizes;
         self.write_hp(code, mixing);
-        let hp = &mut *self.hp;
-        let (support, g) = (code.support, code.g);
-        write_secret(&sizes, support, g, hp, mixing, decoy, secret_key);
-        write_public(&sizes, hp, public_key);
+        self.write_keys(code, mixing, decoy, public_key, secret_key);
+    }
+
+    // The same with the seed that was taken from the list.
+    fn write_taken<F: BinaryField>(
+        &mut self,
+        code: &Code<'_, F>,
+        seeds: &Seeds<'_>,
+        taken: usize,
+        public_key: &mut [u8],
+        secret_key: &mut [u8],
+    )
+        requires field { F.Field.BITS ≡ self.old.sizes.m }
+        requires code { (length code.now.g.now ≡ self.old.sizes.t + 1) × (length code.now.support.now ≡ self.old.sizes.n) }
+        requires taken { taken < count_of seeds.now.mixing.now }
+        requires keys { (length public_key.old ≡ self.old.sizes.public_key) × (length secret_key.old ≡ self.old.sizes.secret_key) }
+        requires usable { independent self.old.sizes.rows (mixed_by F.Field.ops F.Field.places self.old.sizes code.now.support.now code.now.g.now (seed_of seeds.now.mixing.now taken)) ≡ true }
+        ensures public { public_key.new ≡ public_key_of self.old.sizes (reduced_of self.old.sizes.rows (mixed_by F.Field.ops F.Field.places self.old.sizes code.now.support.now code.now.g.now (seed_of seeds.now.mixing.now taken))) }
+        ensures secret { secret_key.new ≡ written self.old.sizes code.now.support.now code.now.g.now (mixed_by F.Field.ops F.Field.places self.old.sizes code.now.support.now code.now.g.now (seed_of seeds.now.mixing.now taken)) (seed_of seeds.now.mixing.now taken) seeds.now.decoy.now }
+    {
+        let mixing = seed_at(seeds.mixing, taken);
+        self.write_pair(code, mixing, seeds.decoy, public_key, secret_key);
     }
 
     // Makes a pair; the code is written in `all` and `g`.
@@ -128,8 +167,7 @@ impl Parts<'_, '_, '_> {
         ) else {
             return Err(Fault::NoUsableSeed(seeds.mixing.len() / 32));
         };
-        let mixing = seed_at(seeds.mixing, taken);
-        self.write_pair(&code, mixing, seeds.decoy, public_key, secret_key);
+        self.write_taken(&code, seeds, taken, public_key, secret_key);
         Ok(())
     }
 }

@@ -39,8 +39,8 @@ returns-in_default g c =
     made.result.g.now made.result.support.now (sym (lawful s).body) (omega arith) (omega arith) made.ensures.g made.ensures.support c.in_default.ensures in
     record { answer = none_usable f pl s code seeds none; gives = (refl, refl) }
 
-pub write_pair-requires-clause-usable : goal.write_pair-requires-clause-usable
-write_pair-requires-clause-usable g c =
+pub write_taken-requires-clause-usable : goal.write_taken-requires-clause-usable
+write_taken-requires-clause-usable g c =
     let s = c.args.self.now.sizes in
     let code = c.args.seeds.now.code.now in
     let seeds = c.args.seeds.now.mixing.now in
@@ -50,9 +50,8 @@ write_pair-requires-clause-usable g c =
     let is =
     taken_same f pl s code seeds (Some c.in-Some.taken) (8 * s.body) (length c.args.self.now.column.now) (length c.args.self.now.order.now)
     made.result.g.now made.result.support.now (sym (lawful s).body) (omega arith) (omega arith) made.ensures.g made.ensures.support c.in-Some.ensures in
-    rw c.seed_at-mixing.ensures
-    (ap (independent s.rows) (mixed_is f pl s code seeds made.result.g.now made.result.support.now c.in-Some.taken made.ensures.g made.ensures.support is.1)
-    ∙ taken_usable f pl s code seeds (omega (arith, is.0, is.1)))
+    ap (independent s.rows) (mixed_is f pl s code seeds made.result.g.now made.result.support.now c.in-Some.taken made.ensures.g made.ensures.support is.1)
+    ∙ taken_usable f pl s code seeds (omega (arith, is.0, is.1))
 
 pub returns : goal.returns
 returns g c =
@@ -71,18 +70,18 @@ returns g c =
     let lt : taken_of f pl s code seeds < count_of seeds = omega (arith, is.0, is.1) in
     let mixing = seed_of seeds (taken_of f pl s code seeds) in
     let HP : Matrix = mixed_of f pl s code mixing in
-    let public : c.write_pair.new.public_key ≡ public_key_of s (reduced_of s.rows HP) =
-    (rw c.seed_at-mixing.ensures at c.write_pair.ensures.public)
+    let public : c.write_taken.new.public_key ≡ public_key_of s (reduced_of s.rows HP) =
+    c.write_taken.ensures.public
     ∙ ap (λ (B : Matrix). public_key_of s (reduced_of s.rows B)) (mixed_is f pl s code seeds made.result.g.now made.result.support.now taken made.ensures.g made.ensures.support is.1) in
-    let secret : c.write_pair.new.secret_key ≡ secret_key_of f pl s code mixing decoy =
-    (rw c.seed_at-mixing.ensures at c.write_pair.ensures.secret)
+    let secret : c.write_taken.new.secret_key ≡ secret_key_of f pl s code mixing decoy =
+    c.write_taken.ensures.secret
     ∙ secret_is f pl s code seeds made.result.g.now made.result.support.now taken made.ensures.g made.ensures.support is.1 decoy in
     let P : List ℕ → Type 0 = λ x. Echelon s.rows s.k HP (public_matrix s x) in
-    let form : P c.write_pair.new.public_key = subst P (sym public) (public_echelon s h HP (taken_usable f pl s code seeds lt)) in
+    let form : P c.write_taken.new.public_key = subst P (sym public) (public_echelon s h HP (taken_usable f pl s code seeds lt)) in
     record {
       answer = one_usable f pl s code seeds taken is.1 is.0;
       gives =
           pair g.met.F.Field.laws pl g.met.F.Field.origin s code (code_fits g.F.Field.BITS s h (sym c.requires.field)) h mixing decoy
           (seed_length seeds (taken_of f pl s code seeds) lt) c.args.seeds.now.whole
-          c.write_pair.new.public_key c.write_pair.new.secret_key public secret form;
+          c.write_taken.new.public_key c.write_taken.new.secret_key public secret form;
     }
