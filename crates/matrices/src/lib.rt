@@ -116,7 +116,12 @@ fn pivot(m: &[u8], width: usize, rows: usize, k: usize, c: usize) -> Option<usiz
     requires { PlaceWithin width rows k c m.now }
     ensures { MatchOption result ((i : ℕ) → k ≤ i → i < rows → matrix width m.now i c ≡ false) (λ p. PivotAt width rows k c p m.now) }
 {
-    (k..rows).find(|&i| entry(m, width, i, c))
+    (k..rows).find(
+        |&i|
+            requires { i * width + c / 8 < length m.now }
+            ensures { result ≡ matrix width m.entry.now i c }
+        { entry(m, width, i, c) },
+    )
 }
 
 // Gets a one into row k of column c, from row p, the first from k on that has one.

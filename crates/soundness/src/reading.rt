@@ -43,5 +43,9 @@ pub fn first_unfit(support: &[Place], size: usize) -> Option<usize>
 pub fn first_outside(numbers: &[Place], size: usize) -> Option<usize>
     ensures { Found result (length numbers.now) (λ i. not (nat_lt (slice_index numbers.now i) size)) }
 {
-    numbers.iter().position(|&x| usize::from(x) >= size)
+    numbers.iter().position(
+        |&x|
+            ensures { result ≡ not (nat_lt x size) }
+        { usize::from(x) >= size },
+    )
 }
