@@ -43,6 +43,7 @@ impl BlockFunction<128> for Chaining {
         compress_block(&mut self.value, block);
     }
 
+    #[tactic(auto, using(crate::specs::Takes::goes_end))]
     fn close(&mut self, absorbed: usize, rest: &[u8], out: &mut [u8; 32]) {
         absorb_last(&mut self.value, rest, 128 * absorbed + rest.len());
         write_digest(&self.value, out);
