@@ -58,6 +58,7 @@ pub fn add_scaled<F: BinaryField>(into: &mut [u16], p: &[u16], c: F, shift: usiz
 }
 
 // The product of two polynomials.
+#[tactic(auto, using(crate::proofs::Steps::product_none, crate::proofs::Places::placed_zeros))]
 pub fn product<F: BinaryField>(out: &mut [u16], p: &[u16], q: &[u16])
     requires { length p.now + length q.now ≤ length out.old + 1 }
     ensures is { coefs F.Field.places out.new ≡ (poly F.Field.ops).mul (coefs F.Field.places p.now) (coefs F.Field.places q.now) }

@@ -1,15 +1,7 @@
-use Rattle.std.proofs.Common.{rules, ◌≡◌, replicate, length, take_all}
+use Rattle.std.proofs.Common.{take_all}
 use Rattle.polys.specs.Coefs.{coefs}
-use Rattle.polys.proofs.Steps.{product_none, product_more}
-use Rattle.polys.proofs.Places.{placed_zeros}
+use Rattle.polys.proofs.Steps.{product_more}
 use Rattle.polys.proofs.arithmetic.product.Goals as goal
-
-pub loop-i-init : goal.loop-i-init
-loop-i-init g c =
-    let f = g.F.Field in
-    let zeros : c.fill.new.self ≡ replicate (length c.args.out.now) 0 = search rules in
-    let e = product_none g.met.F.Field.laws f.places g.met.F.Field.origin (length c.args.out.now) (coefs f.places c.args.q.now) in
-    (cc, placed_zeros f.BITS (length c.args.out.now) _ zeros)
 
 pub loop-i-preserved : goal.loop-i-preserved
 loop-i-preserved g c =
