@@ -66,6 +66,12 @@ module _ {A : Type 0} {f : Ops A} (k : Laws f) where
           ∙ sym (ap₂ f.add (below_list k pl z g n (omega arith)) (ap (f.mul a) (value_past g a (suc n) (omega arith)) ∙ mul_zero (ring_laws k) a))
     ]
 
+    -- the same with what is read at place n
+    pub value_read : (g : List ℕ) (a : A) (n j : ℕ) → j ≡ n + 1 → value f pl (drop n g) a ≡ f.add (pl.at (get_or g n 0)) (f.mul a (value f pl (drop j g) a))
+    value_read g a n j e =
+        let next : suc n ≡ j = omega arith in
+        value_step g a n ∙ ap₂ f.add (coefs_at k pl g n) (ap (λ (i : ℕ). f.mul a (value f pl (drop i g) a)) next)
+
     pub over_value : (t r : ℕ) (g : List ℕ) (a : A) → length g ≡ t + 1 → value f pl (drop (r + 1) g) a ≡ over_coefficient f t (coefs pl g) a r
     unfolding value
     over_value t r g a e =
