@@ -1,8 +1,9 @@
 -- The quotient of a polynomial by X - a, and the inverse of X - a that it gives.
-use Rattle.std.proofs.Common.{◌≡◌, ℕ, zero, suc, ◌+◌, ◌-◌, ◌<◌, ◌≤◌, List, [], ◌∷◌, map, length, get_or, drop, sym, refl, ap, ◌∙◌, ap₂, add-one, arith, length-drop, drop_of_length-le, get_or-drop, drop-cons}
+use Rattle.std.proofs.Common.{◌≡◌, ℕ, zero, suc, ◌+◌, ◌-◌, ◌<◌, ◌≤◌, List, [], ◌∷◌, map, length, get_or, drop, sym, refl, ap, ◌∙◌, ap₂, add-one, arith, length-drop, drop_of_length-le, get_or-drop, get_or-set_other, drop-cons}
 use mathlib.Core.Path.{fun_ext}
 use native.Mathlib.Decide.{dec_lt}
 use Rattle.std.proofs.lemmas.List.{length-map}
+use Rattle.std.proofs.lemmas.Grind.{get_or-set_at}
 use Rattle.algebra.specs.Field.{Ops, Laws, Places}
 use Rattle.algebra.specs.Ring.{ring_of}
 use Rattle.algebra.specs.Poly.{eval}
@@ -66,11 +67,11 @@ module _ {A : Type 0} {f : Ops A} (k : Laws f) where
           ∙ sym (ap₂ f.add (below_list k pl z g n (omega arith)) (ap (f.mul a) (value_past g a (suc n) (omega arith)) ∙ mul_zero (ring_laws k) a))
     ]
 
-    -- the same with what is read at place n
-    pub value_read : (g : List ℕ) (a : A) (n j : ℕ) → j ≡ n + 1 → value f pl (drop n g) a ≡ f.add (pl.at (get_or g n 0)) (f.mul a (value f pl (drop j g) a))
-    value_read g a n j e =
-        let next : suc n ≡ j = omega arith in
-        value_step g a n ∙ ap₂ f.add (coefs_at k pl g n) (ap (λ (i : ℕ). f.mul a (value f pl (drop i g) a)) next)
+    -- the same with what is read there, at the place before n as a loop that counts down has it
+    pub value_read : (g : List ℕ) (a : A) (n : ℕ) → 0 < n → value f pl (drop (n - 1 + 1) g) a ≡ f.add (pl.at (get_or g (n - 1 + 1) 0)) (f.mul a (value f pl (drop (n + 1) g) a))
+    value_read g a n h =
+        let next : suc (n - 1 + 1) ≡ n + 1 = omega arith in
+        value_step g a (n - 1 + 1) ∙ ap₂ f.add (coefs_at k pl g (n - 1 + 1)) (ap (λ (i : ℕ). f.mul a (value f pl (drop i g) a)) next)
 
     pub over_value : (t r : ℕ) (g : List ℕ) (a : A) → length g ≡ t + 1 → value f pl (drop (r + 1) g) a ≡ over_coefficient f t (coefs pl g) a r
     unfolding value
@@ -146,3 +147,6 @@ module _ {A : Type 0} {f : Ops A} (k : Laws f) where
         product = λ r h. product_is r;
         written = all_written pl col t (λ r. f.mul e (value f pl (drop (r + 1) g) a)) long-col got;
       }
+
+-- what a step of the quotient takes: the value of what stands from a place on, and a write
+pub ruleset quotient_steps = (value_read, get_or-set_at, get_or-set_other)

@@ -8,7 +8,7 @@ use fields::{add_product, read};
 use polys::values::value_at;
 
 // Writes e times the quotient of g by X - a. The quotient's coefficient of X^r is the value at a of what stands in g after place r.
-#[tactic(auto, using(std::proofs::lemmas::Grind::common_steps, crate::proofs::Quotients::value_read))]
+#[tactic(auto, using(crate::proofs::Quotients::quotient_steps))]
 fn scaled_quotient<F: BinaryField>(g: &[u16], a: F, e: F, out: &mut [u16])
     requires { length g.now ≡ length out.old + 1 }
     ensures { (r : ℕ) → r < length out.old → slice_index out.new r ≡ F.Field.places.num (F.Field.ops.mul e (value F.Field.ops F.Field.places (drop (r + 1) g.now) a)) }
